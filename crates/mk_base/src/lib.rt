@@ -1,0 +1,26 @@
+//! The ground of the compiler: what a program reads from and writes to, lists that contracts see as
+//! lists, and places in a text. The two loops over the outside, `read_all` and `write_all`, say byte
+//! for byte what was read and written, and answer a fault only where the outside counted one.
+#![tactic(auto)]
+
+mod items;
+mod memory;
+mod outside;
+mod plain;
+mod streams;
+
+pub use items::{Bytes, Items, Memory, Words};
+pub use memory::{MemSink, MemSource};
+pub use outside::{Failed, Sink, Source};
+pub use plain::{DropSink, SureSource};
+pub use streams::{ReadRefusal, read_all, write_all};
+
+/// The greatest masking order: a value is held as at most `TOP_ORDER + 1` shares.
+pub const TOP_ORDER: u8 = 8;
+
+/// A place in a text. Both numbers are counted from 1, the column in bytes.
+#[derive(Clone, Copy, Debug, PartialEq, Eq)]
+pub struct Place {
+    pub line: u32,
+    pub column: u32,
+}

@@ -1,0 +1,5 @@
+pub mod Listing
+pub mod Draft
+pub mod Trace
+pub mod Counting
+pub mod Private

@@ -1,0 +1,109 @@
+ghost use Rattle.std.specs.Prelude.{◌≡◌, ◌+◌, ◌*◌, ◌≤◌, ◌<◌, ◌^◌, length};
+ghost use Rattle.mk_code.specs.Listing.{IsListing, trace_len};
+ghost use Rattle.mk_code.specs.Trace.{randoms};
+
+use crate::instr::Instr;
+use mk_base::Items;
+use mk_field::{AddMap, FieldId};
+use std::marker::Model;
+
+/// A list of additive maps.
+pub type MapList = Items<AddMap>;
+
+/// A list of instructions.
+pub type InstrList = Items<Instr>;
+
+/// A list of places in a trace.
+pub type PositionList = Items<u32>;
+
+/// A code that fits together: its instructions read entries, maps and elements that there are, its
+/// outs are in the trace and as many for each output as there are shares, and it is within the limits.
+#[derive(Debug, Drop)]
+pub struct Code {
+    pub(crate) field: FieldId,
+    pub(crate) order: u8,
+    pub(crate) secrets: u32,
+    pub(crate) publics: u32,
+    pub(crate) maps: MapList,
+    pub(crate) instrs: InstrList,
+    pub(crate) outs: PositionList,
+    pub(crate) random_len: u32,
+}
+
+impl Model for Code {
+    ghost use Rattle.std.specs.Prelude.{◌≡◌};
+    ghost use Rattle.mk_code.specs.Listing.{Listing, IsListing};
+    ghost use Rattle.mk_code.specs.Trace.{randoms};
+
+    ghost Value = { Listing };
+
+    ghost view = { λ c. record { field = c.field; order = c.order; secrets = c.secrets; publics = c.publics; maps = c.maps; instrs = c.instrs; outs = c.outs } };
+
+    ghost invariant = { λ c. IsListing (record { field = c.field; order = c.order; secrets = c.secrets; publics = c.publics; maps = c.maps; instrs = c.instrs; outs = c.outs }) × (c.random_len ≡ randoms c.instrs) };
+}
+
+impl Code {
+    /// The field that it computes in.
+    pub fn field(&self) -> FieldId
+        ensures value { result ≡ self.now.field }
+        ensures fits { IsListing self.now }
+    {
+        self.field
+    }
+
+    /// The masking order: each value is held as one share more.
+    pub fn order(&self) -> u8
+        ensures { result ≡ self.now.order }
+    {
+        self.order
+    }
+
+    /// The number of secrets.
+    pub fn secrets(&self) -> u32
+        ensures { result ≡ self.now.secrets }
+    {
+        self.secrets
+    }
+
+    /// The number of public inputs.
+    pub fn publics(&self) -> u32
+        ensures { result ≡ self.now.publics }
+    {
+        self.publics
+    }
+
+    /// The additive maps, which instructions name by their numbers.
+    pub fn maps(&self) -> &MapList
+        ensures { result.now ≡ self.now.maps }
+    {
+        &self.maps
+    }
+
+    /// The instructions, in order.
+    pub fn instrs(&self) -> &InstrList
+        ensures { result.now ≡ self.now.instrs }
+    {
+        &self.instrs
+    }
+
+    /// The places of the outputs' shares, output by output.
+    pub fn outs(&self) -> &PositionList
+        ensures { result.now ≡ self.now.outs }
+    {
+        &self.outs
+    }
+
+    /// How many random elements one run takes.
+    pub fn randoms(&self) -> u32
+        ensures { result ≡ randoms self.now.instrs }
+    {
+        self.random_len
+    }
+
+    /// How many entries the trace of a run has.
+    pub fn trace_len(&self) -> u32
+        ensures { result ≡ trace_len self.now }
+    {
+        self.secrets * (u32::from(self.order) + 1) + self.publics + self.instrs.len() as u32
+    }
+}

@@ -1,0 +1,33 @@
+-- Boolean sharings (Ishai, Sahai and Wagner, CRYPTO 2003): a value is the sum of its shares. That the
+-- share that corrects the sum stands first is this project's own choice.
+use Rattle.std.specs.Prelude.{◌≡◌, ℕ, List, [], ◌∷◌, ◌++◌, length, take, drop, bit_xor, refl}
+
+-- the sum of a list of elements
+unfoldable pub field_sum : List ℕ → ℕ
+field_sum [] = 0
+field_sum (a ∷ rest) = bit_xor a (field_sum rest)
+
+-- these are n shares of the value a
+pub record IsSharing (n a : ℕ) (shares : List ℕ) : Type 0 where
+  pub count : length shares ≡ n
+  pub sum : field_sum shares ≡ a
+
+-- the encoding of a secret by random elements: the secret plus their sum, and then the elements
+abbrev pub encoding : ℕ → List ℕ → List ℕ
+encoding secret elements = bit_xor secret (field_sum elements) ∷ elements
+
+-- the encodings of several secrets one after the other, each by the next `order` elements
+unfoldable pub encodings : ℕ → List ℕ → List ℕ → List ℕ
+encodings order [] elements = []
+encodings order (secret ∷ secrets) elements =
+    encoding secret (take order elements) ++ encodings order secrets (drop order elements)
+
+-- 02 and 55 are two shares of 57
+pub sharing-57 : IsSharing 2 0x57 (0x02 ∷ 0x55 ∷ [])
+unfolding field_sum
+sharing-57 = record { count = refl; sum = refl }
+
+-- 57 and 83 encoded by 55 and 55 at order 1
+pub encodings-57-83 : encodings 1 (0x57 ∷ 0x83 ∷ []) (0x55 ∷ 0x55 ∷ []) ≡ 0x02 ∷ 0x55 ∷ 0xd6 ∷ 0x55 ∷ []
+unfolding encodings field_sum
+encodings-57-83 = refl

@@ -1,0 +1,95 @@
+ghost use Rattle.std.specs.Prelude.{◌≡◌, ◌<◌, ◌↔◌, ℕ, IsTrue, bit_xor};
+ghost use Rattle.mk_field.specs.Field.{size};
+
+/// Which of the two fields.
+#[derive(Clone, Copy, Debug, PartialEq, Eq)]
+pub enum FieldId {
+    /// GF(2), whose elements are 0 and 1.
+    Gf2,
+    /// GF(2^8), whose elements are the bytes.
+    Gf256,
+}
+
+impl FieldId {
+    /// The number of elements, which are the numbers below it.
+    pub fn size(self) -> u16
+        ensures { result ≡ size self }
+    {
+        match self {
+            FieldId::Gf2 => Gf2::SIZE,
+            FieldId::Gf256 => Gf256::SIZE,
+        }
+    }
+
+    /// Whether the byte is an element.
+    pub fn contains(self, a: u8) -> bool
+        ensures { IsTrue result ↔ (a < size self) }
+    {
+        u16::from(a) < self.size()
+    }
+}
+
+/// A field whose elements are the numbers below its size, as bytes.
+pub trait Field {
+    ghost use Rattle.mk_field.specs.declared.field.FieldId.{FieldId};
+
+    ghost ID: { FieldId };
+
+    ghost SIZE: { ℕ };
+
+    const ID: FieldId;
+
+    const SIZE: u16;
+
+    /// The sum of two elements.
+    fn add(a: u8, b: u8) -> u8
+        requires left { a < size ID }
+        requires right { b < size ID }
+        ensures { result ≡ bit_xor a b };
+
+    ghost size_of_id: { SIZE ≡ size ID };
+}
+
+/// GF(2): the sum is exclusive or.
+pub struct Gf2;
+
+/// GF(2^8), as in FIPS 197 section 4: the sum is exclusive or.
+pub struct Gf256;
+
+impl Field for Gf2 {
+    ghost use Rattle.std.specs.Prelude.{refl};
+    ghost use Rattle.mk_field.specs.declared.field.FieldId.TheVariants.{Gf2};
+
+    ghost ID = { Gf2 };
+
+    ghost SIZE = { 2 };
+
+    ghost size_of_id = { refl };
+
+    const ID: FieldId = FieldId::Gf2;
+
+    const SIZE: u16 = 2;
+
+    fn add(a: u8, b: u8) -> u8 {
+        a ^ b
+    }
+}
+
+impl Field for Gf256 {
+    ghost use Rattle.std.specs.Prelude.{refl};
+    ghost use Rattle.mk_field.specs.declared.field.FieldId.TheVariants.{Gf256};
+
+    ghost ID = { Gf256 };
+
+    ghost SIZE = { 256 };
+
+    ghost size_of_id = { refl };
+
+    const ID: FieldId = FieldId::Gf256;
+
+    const SIZE: u16 = 256;
+
+    fn add(a: u8, b: u8) -> u8 {
+        a ^ b
+    }
+}
