@@ -7,6 +7,12 @@ unfoldable pub field_sum : List ℕ → ℕ
 field_sum [] = 0
 field_sum (a ∷ rest) = bit_xor a (field_sum rest)
 
+-- two lists added element by element, what is behind the end of the shorter one counting as 0
+unfoldable pub added : List ℕ → List ℕ → List ℕ
+added [] ys = ys
+added (x ∷ xs) [] = x ∷ xs
+added (x ∷ xs) (y ∷ ys) = bit_xor x y ∷ added xs ys
+
 -- these are n shares of the value a
 pub record IsSharing (n a : ℕ) (shares : List ℕ) : Type 0 where
   pub count : length shares ≡ n

@@ -3,7 +3,9 @@
 #![tactic(auto)]
 
 mod field;
+mod laws;
 mod map;
 
 pub use field::{Field, FieldId, Gf2, Gf256};
+pub use laws::sum_laws;
 pub use map::AddMap;
