@@ -1,1 +1,3 @@
 pub mod Instrs
+pub mod Sums
+pub mod Totals
