@@ -1,3 +1,4 @@
 pub mod Instrs
 pub mod Sums
 pub mod Totals
+pub mod LeftOut

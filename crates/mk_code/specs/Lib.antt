@@ -3,3 +3,4 @@ pub mod Draft
 pub mod Trace
 pub mod Counting
 pub mod Private
+pub mod Shares
