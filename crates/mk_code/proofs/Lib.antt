@@ -2,3 +2,4 @@ pub mod Instrs
 pub mod Sums
 pub mod Totals
 pub mod LeftOut
+pub mod Encodings

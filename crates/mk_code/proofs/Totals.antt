@@ -1,5 +1,5 @@
 -- Laws of totals: sums over all lists of n numbers below q.
-use Rattle.std.proofs.Common.{◌≡◌, ℕ, zero, suc, ◌+◌, ◌^◌, ◌<◌, ◌≤◌, List, [], ◌∷◌, ◌++◌, length, take, drop, bit_xor, refl, sym, ◌∙◌, ap, subst, arith, zero-add, suc-add, length-append, All}
+use Rattle.std.proofs.Common.{◌≡◌, ℕ, zero, suc, ◌+◌, ◌^◌, ◌<◌, ◌≤◌, List, [], ◌∷◌, ◌++◌, length, take, drop, bit_xor, refl, sym, ◌∙◌, ap, subst, arith, zero-add, suc-add, length-append, length-drop, length-take-le}
 use Rattle.mk_field.specs.Sharing.{added}
 use Rattle.mk_code.specs.Counting.{sum_below, total, AllBelow, Elements}
 use Rattle.mk_code.proofs.Sums.{sum_below-same, sum_below-zero, sum_below-add, sum_below-exchange, sum_below-moved}
@@ -26,6 +26,28 @@ Elements-append q m n s t front back = record {
   count = omega (arith, length-append s t, front.count, back.count);
   below = AllBelow-append q s t front.below back.below;
 }
+
+-- the front of numbers below q
+pub AllBelow-take : (q m : ℕ) (s : List ℕ) → AllBelow q s → AllBelow q (take m s)
+unfolding AllBelow
+AllBelow-take q zero s below = tt
+AllBelow-take q (suc m) [] below = tt
+AllBelow-take q (suc m) (a ∷ s) below = (below.0, AllBelow-take q m s below.1)
+
+-- the back of numbers below q
+pub AllBelow-drop : (q m : ℕ) (s : List ℕ) → AllBelow q s → AllBelow q (drop m s)
+unfolding AllBelow
+AllBelow-drop q zero s below = below
+AllBelow-drop q (suc m) [] below = tt
+AllBelow-drop q (suc m) (a ∷ s) below = AllBelow-drop q m s below.1
+
+-- the first m of m + n elements
+pub Elements-take : (q m n : ℕ) (s : List ℕ) → Elements q (m + n) s → Elements q m (take m s)
+Elements-take q m n s here = record { count = length-take-le m s (omega (arith, here.count)); below = AllBelow-take q m s here.below }
+
+-- what is behind the first m of m + n elements
+pub Elements-drop : (q m n : ℕ) (s : List ℕ) → Elements q (m + n) s → Elements q n (drop m s)
+Elements-drop q m n s here = record { count = omega (arith, length-drop m s, here.count); below = AllBelow-drop q m s here.below }
 
 -- functions that are equal at each list of n elements have equal totals
 pub total-same : (q n : ℕ) (g h : List ℕ → ℕ) → ((s : List ℕ) → Elements q n s → g s ≡ h s) → total q n g ≡ total q n h
