@@ -3,3 +3,4 @@ pub mod Sums
 pub mod Totals
 pub mod LeftOut
 pub mod Encodings
+pub mod Columns

@@ -4,3 +4,4 @@ pub mod Trace
 pub mod Counting
 pub mod Private
 pub mod Shares
+pub mod Columns
