@@ -1,7 +1,7 @@
 -- Code that works share by share is private: an observer of at most `order` places sees nothing of
 -- some column.
-use Rattle.std.proofs.Common.{◌≡◌, ◌≢◌, ◌⊎◌, ℕ, zero, suc, ◌+◌, ◌-◌, ◌*◌, ◌^◌, ◌<◌, ◌≤◌, List, [], ◌∷◌, ◌++◌, length, take, drop, map, slice_index, Option, Some, None, refl, sym, ◌∙◌, ap, subst, arith, inl, inr, add-zero, length-append, suc-mul, zero-mul}
-use Rattle.std.proofs.lemmas.List.{length-map, get_or-append_right, take_all, get_or_append_left, get_or_push, get_or_past, get_or-append-add}
+use Rattle.std.proofs.Common.{◌≡◌, ◌≢◌, ℕ, zero, suc, ◌+◌, ◌-◌, ◌*◌, ◌<◌, ◌≤◌, List, [], ◌∷◌, ◌++◌, length, take, drop, map, slice_index, Option, Some, None, refl, sym, ◌∙◌, ap, arith, inl, inr, length-append, suc-mul, zero-mul}
+use Rattle.std.proofs.lemmas.List.{length-map, get_or-append_right, take_all, get_or_append_left, get_or_push, get_or_past}
 use Rattle.std.proofs.lemmas.Bool.{cases_order, cases_lt}
 use Rattle.mk_field.specs.declared.field.FieldId.{FieldId}
 use Rattle.mk_field.specs.declared.map.AddMap.{AddMap}
@@ -9,9 +9,9 @@ use Rattle.mk_field.specs.Field.{bits, size, product, square}
 use Rattle.mk_field.specs.Sharing.{encodings}
 use Rattle.mk_code.specs.declared.instr.Instr.{Instr}
 use Rattle.mk_code.specs.declared.instr.Instr.TheVariants.{Rnd, Const, Copy, Add, Mul, Sq, Map}
-use Rattle.mk_code.specs.Listing.{Listing, inputs_len, trace_len}
+use Rattle.mk_code.specs.Listing.{Listing, inputs_len}
 use Rattle.mk_code.specs.Trace.{entry, takes, randoms, run, trace, image_by}
-use Rattle.mk_code.specs.Counting.{total, one_if_equal, AllBelow, Elements}
+use Rattle.mk_code.specs.Counting.{total, one_if_equal}
 use Rattle.mk_code.specs.Private.{observation, spent, masked_trace, ways, Private}
 use Rattle.mk_code.specs.Shares.{AgreeBut, LooksPast}
 use Rattle.mk_code.specs.Columns.{MayRead, StaysIn, AllStayIn, AreColumns, HasColumns}
@@ -51,16 +51,18 @@ entry-off field maps column f len (Map map from) w x u v stays agree off =
 -- one more entry
 agree-push : (column : ℕ → Option ℕ) (f len : ℕ) (u v : List ℕ) (a b : ℕ) → length u ≡ len → length v ≡ len
     → AgreeOff column f u v → (column len ≢ Some f → a ≡ b) → AgreeOff column f (u ++ a ∷ []) (v ++ b ∷ [])
-agree-push column f len u v a b left right agree here = record { at = λ p off. elim (cases_order p len) [
-    inl same ↦
-    get_or_push u a 0 p (omega (arith, left, same)) ∙ here (λ e. off (ap column same ∙ e)) ∙ sym (get_or_push v b 0 p (omega (arith, right, same)))
-  | inr other ↦ elim other [
-      inl before ↦
-      get_or_append_left u (a ∷ []) 0 p (omega arith) ∙ agree.at p off ∙ sym (get_or_append_left v (b ∷ []) 0 p (omega arith))
-    | inr behind ↦
-      get_or_past (u ++ a ∷ []) p 0 (omega (arith, length-append u (a ∷ []))) ∙ sym (get_or_past (v ++ b ∷ []) p 0 (omega (arith, length-append v (b ∷ []))))
+agree-push column f len u v a b left right agree here = record {
+  at = λ p off. elim (cases_order p len) [
+    | inl same ↦
+        get_or_push u a 0 p (omega (arith, left, same)) ∙ here (λ e. off (ap column same ∙ e)) ∙ sym (get_or_push v b 0 p (omega (arith, right, same)))
+    | inr other ↦ elim other [
+      | inl before ↦
+          get_or_append_left u (a ∷ []) 0 p (omega arith) ∙ agree.at p off ∙ sym (get_or_append_left v (b ∷ []) 0 p (omega arith))
+      | inr behind ↦
+          get_or_past (u ++ a ∷ []) p 0 (omega (arith, length-append u (a ∷ []))) ∙ sym (get_or_past (v ++ b ∷ []) p 0 (omega (arith, length-append v (b ∷ []))))
     ]
-] }
+  ];
+}
 
 -- the entries of instructions that stay in their columns
 run-off : (field : FieldId) (maps : List AddMap) (column : ℕ → Option ℕ) (f len : ℕ) (is : List Instr) (s t u v : List ℕ)
@@ -74,7 +76,7 @@ run-off field maps column f len (i ∷ is) s t u v left right stay agree =
     run-off field maps column f (len + 1) is (drop (takes i) s) (drop (takes i) t) (u ++ a ∷ []) (v ++ b ∷ [])
     (omega (arith, length-append u (a ∷ []), left)) (omega (arith, length-append v (b ∷ []), right)) stay.1
     (agree-push column f len u v a b left right agree
-      (λ off. entry-off field maps column f len i (slice_index s 0) (slice_index t 0) u v stay.0 agree off))
+    (λ off. entry-off field maps column f len i (slice_index s 0) (slice_index t 0) u v stay.0 agree off))
 
 -- instructions that stay in their columns take no random element
 randoms-none : (column : ℕ → Option ℕ) (len : ℕ) (is : List Instr) → AllStayIn column len is → randoms is ≡ 0
@@ -110,33 +112,35 @@ run-any_tape field maps column len (Map map from ∷ is) s t u stay =
 share-at : (order n p : ℕ) → p < n * (order + 1) → (i : ℕ) × (j : ℕ) × (i < n) × (j ≤ order) × (p ≡ i * (order + 1) + j)
 share-at order zero p below = absurd (omega (arith, zero-mul (order + 1)))
 share-at order (suc n) p below = elim (cases_order p (n * (order + 1))) [
-    inl same ↦ (n, 0, omega arith, omega arith, omega arith)
+  | inl same ↦ (n, 0, omega arith, omega arith, omega arith)
   | inr other ↦ elim other [
-      inl before ↦
-      let found : (i : ℕ) × (j : ℕ) × (i < n) × (j ≤ order) × (p ≡ i * (order + 1) + j) = share-at order n p before in
-      (found.0, found.1, omega (arith, found.2), found.3, found.4)
+    | inl before ↦
+        let found : (i : ℕ) × (j : ℕ) × (i < n) × (j ≤ order) × (p ≡ i * (order + 1) + j) = share-at order n p before in
+        (found.0, found.1, omega (arith, found.2), found.3, found.4)
     | inr behind ↦
-      (n, p - n * (order + 1), omega arith, omega (arith, suc-mul n (order + 1)), omega (arith, suc-mul n (order + 1)))
-    ]
+        (n, p - n * (order + 1), omega arith, omega (arith, suc-mul n (order + 1)), omega (arith, suc-mul n (order + 1)))
+  ]
 ]
 
 -- shares that are equal but for share f of each secret are equal outside column f
 inputs-off : (code : Listing) (column : ℕ → Option ℕ) (f : ℕ) (publics u v : List ℕ) → AreColumns code column
     → length u ≡ code.secrets * (code.order + 1) → length v ≡ code.secrets * (code.order + 1)
     → AgreeBut code.order code.secrets (λ i. f) u v → AgreeOff column f (u ++ publics) (v ++ publics)
-inputs-off code column f publics u v columns left right agree = record { at = λ p off. elim (cases_lt p (code.secrets * (code.order + 1))) [
-    inl before ↦
-    let found : (i : ℕ) × (j : ℕ) × (i < code.secrets) × (j ≤ code.order) × (p ≡ i * (code.order + 1) + j) = share-at code.order code.secrets p before in
-    let own : column p ≡ Some found.1 = ap column found.4 ∙ columns.shares found.0 found.1 found.2 found.3 in
-    let same : slice_index u p ≡ slice_index v p =
-    ap (slice_index u) found.4
-    ∙ agree.shares found.0 found.1 found.2 found.3 (λ e. off (own ∙ ap Some e))
-    ∙ ap (slice_index v) (sym found.4) in
-    get_or_append_left u publics 0 p (omega (arith, left)) ∙ same ∙ sym (get_or_append_left v publics 0 p (omega (arith, right)))
-  | inr behind ↦
-    get_or-append_right u publics (code.secrets * (code.order + 1)) p 0 left behind
-    ∙ sym (get_or-append_right v publics (code.secrets * (code.order + 1)) p 0 right behind)
-] }
+inputs-off code column f publics u v columns left right agree = record {
+  at = λ p off. elim (cases_lt p (code.secrets * (code.order + 1))) [
+    | inl before ↦
+        let found : (i : ℕ) × (j : ℕ) × (i < code.secrets) × (j ≤ code.order) × (p ≡ i * (code.order + 1) + j) = share-at code.order code.secrets p before in
+        let own : column p ≡ Some found.1 = ap column found.4 ∙ columns.shares found.0 found.1 found.2 found.3 in
+        let same : slice_index u p ≡ slice_index v p =
+        ap (slice_index u) found.4
+        ∙ agree.shares found.0 found.1 found.2 found.3 (λ e. off (own ∙ ap Some e))
+        ∙ ap (slice_index v) (sym found.4) in
+        get_or_append_left u publics 0 p (omega (arith, left)) ∙ same ∙ sym (get_or_append_left v publics 0 p (omega (arith, right)))
+    | inr behind ↦
+        get_or-append_right u publics (code.secrets * (code.order + 1)) p 0 left behind
+        ∙ sym (get_or-append_right v publics (code.secrets * (code.order + 1)) p 0 right behind)
+  ];
+}
 
 -- the number of a column, 0 where there is none
 number : Option ℕ → ℕ
@@ -162,13 +166,13 @@ ways-encodings code column publics secrets probes seen columns =
     let count : code.order * code.secrets + randoms code.instrs ≡ code.order * code.secrets = omega (arith, none) in
     ap (λ (m : ℕ). total (size code.field) m (λ tape. one_if_equal (observation probes (masked_trace code publics secrets tape)) seen)) count
     ∙ total-same (size code.field) (code.order * code.secrets)
-      (λ tape. one_if_equal (observation probes (masked_trace code publics secrets tape)) seen)
-      (λ s. one_if_equal (observation probes (trace code publics (encodings code.order secrets s) [])) seen)
-      (λ s here.
-        ap (λ (l : List ℕ). one_if_equal (observation probes l) seen)
-        (run-any_tape code.field code.maps column (inputs_len code.order code.secrets code.publics) code.instrs (drop (spent code) s) []
-          (encodings code.order secrets (take (spent code) s) ++ publics) columns.instrs
-          ∙ ap (λ (l : List ℕ). trace code publics (encodings code.order secrets l) []) (take_all (spent code) s (omega (arith, here.count)))))
+    (λ tape. one_if_equal (observation probes (masked_trace code publics secrets tape)) seen)
+    (λ s. one_if_equal (observation probes (trace code publics (encodings code.order secrets s) [])) seen)
+    (λ s here.
+    ap (λ (l : List ℕ). one_if_equal (observation probes l) seen)
+    (run-any_tape code.field code.maps column (inputs_len code.order code.secrets code.publics) code.instrs (drop (spent code) s) []
+    (encodings code.order secrets (take (spent code) s) ++ publics) columns.instrs
+    ∙ ap (λ (l : List ℕ). trace code publics (encodings code.order secrets l) []) (take_all (spent code) s (omega (arith, here.count)))))
 
 -- code that works share by share is private
 pub columns-private : (code : Listing) (column : ℕ → Option ℕ) → AreColumns code column → Private code
@@ -177,12 +181,14 @@ columns-private code column columns publics first second probes seen given left 
     let short : length touched < suc code.order = omega (arith, length-map probes (λ p. number (column p))) in
     let found : (f : ℕ) × (f < suc code.order) × IsLeftOut f touched = left_out (suc code.order) touched short in
     let h : List ℕ → ℕ = λ u. one_if_equal (observation probes (trace code publics u [])) seen in
-    let looks : LooksPast (size code.field) code.order code.secrets (λ i. found.0) h = record { same = λ u v here there agree.
-      ap (λ (l : List ℕ). one_if_equal l seen)
-      (observation-off column found.0 probes (trace code publics u []) (trace code publics v []) found.2
-        (run-off code.field code.maps column found.0 (inputs_len code.order code.secrets code.publics) code.instrs [] [] (u ++ publics) (v ++ publics)
+    let looks : LooksPast (size code.field) code.order code.secrets (λ i. found.0) h = record {
+      same = λ u v here there agree.
+          ap (λ (l : List ℕ). one_if_equal l seen)
+          (observation-off column found.0 probes (trace code publics u []) (trace code publics v []) found.2
+          (run-off code.field code.maps column found.0 (inputs_len code.order code.secrets code.publics) code.instrs [] [] (u ++ publics) (v ++ publics)
           (omega (arith, length-append u publics, here.count, given.count)) (omega (arith, length-append v publics, there.count, given.count))
-          columns.instrs (inputs-off code column found.0 publics u v columns here.count there.count agree))) } in
+          columns.instrs (inputs-off code column found.0 publics u v columns here.count there.count agree)));
+    } in
     ways-encodings code column publics first probes seen columns
     ∙ encodings-law (bits code.field) code.order code.secrets (λ i. found.0) h first second (λ i. omega (arith, found.1)) looks left right
     ∙ sym (ways-encodings code column publics second probes seen columns)

@@ -1,15 +1,15 @@
 -- The law of encodings: what looks past one share of each secret has the same total, whatever the
 -- secrets are.
-use Rattle.std.proofs.Common.{◌≡◌, ◌≢◌, ℕ, zero, suc, ◌+◌, ◌*◌, ◌^◌, ◌<◌, ◌≤◌, List, [], ◌∷◌, ◌++◌, length, take, drop, map, slice_index, bit_xor, refl, sym, ◌∙◌, ap, subst, arith, pow_pos, zero-add, zero-mul, suc-mul, mul-suc, mul-zero, add_assoc, length-append, length-drop, get_or-append-add}
-use Rattle.std.proofs.lemmas.List.{take_at, drop_at, get_or_append_left, length-take-le}
+use Rattle.std.proofs.Common.{◌≡◌, ◌≢◌, ℕ, zero, suc, ◌+◌, ◌*◌, ◌^◌, ◌<◌, ◌≤◌, List, [], ◌∷◌, ◌++◌, length, take, drop, slice_index, bit_xor, refl, sym, ◌∙◌, ap, subst, arith, pow_pos, zero-mul, suc-mul, mul-suc, get_or-append-add}
+use Rattle.std.proofs.lemmas.List.{take_at, drop_at, get_or_append_left}
 use Rattle.mk_field.specs.declared.field.FieldId.{FieldId}
-use Rattle.mk_field.specs.Field.{bits, size}
+use Rattle.mk_field.specs.Field.{bits}
 use Rattle.mk_field.specs.Sharing.{field_sum, added, encoding, encodings}
 use Rattle.mk_field.proofs.Sum.{sum-below, sum-cancel, sum-left_comm, sum-assoc, sum-zero_right, field_sum-added, length-added}
 use Rattle.mk_code.specs.Counting.{total, one_if_equal, AllBelow, Elements}
 use Rattle.mk_code.specs.Private.{observation}
 use Rattle.mk_code.specs.Shares.{AgreeBut, LooksPast, EncodingLaw, EncodingsLaw}
-use Rattle.mk_code.proofs.Totals.{Elements-cons, Elements-nil, Elements-append, Elements-take, Elements-drop, AllBelow-append, total-same, total-split, total-moved}
+use Rattle.mk_code.proofs.Totals.{Elements-cons, Elements-append, Elements-take, Elements-drop, total-same, total-split, total-moved}
 use Rattle.mk_code.proofs.LeftOut.{IsLeftOut, left_out}
 
 -- the sum of elements below a power of 2 is below it
@@ -94,19 +94,19 @@ AllBelow-move k (suc f) v below = AllBelow-lone k f v below
 -- one secret: what looks past one share has the same total over all encodings
 pub encoding-law : (k order f x y : ℕ) (h : List ℕ → ℕ) → f ≤ order → x < 2 ^ k → y < 2 ^ k
     → ((u v : List ℕ) → Elements (2 ^ k) (suc order) u → Elements (2 ^ k) (suc order) v
-      → ((j : ℕ) → j ≢ f → slice_index u j ≡ slice_index v j) → h u ≡ h v)
+    → ((j : ℕ) → j ≢ f → slice_index u j ≡ slice_index v j) → h u ≡ h v)
     → total (2 ^ k) order (λ s. h (encoding x s)) ≡ total (2 ^ k) order (λ s. h (encoding y s))
 encoding-law k order f x y h fits left right looks =
     let d = move f (bit_xor x y) in
     let short : length d ≤ order = move-fits f (bit_xor x y) order fits in
     let below : AllBelow (2 ^ k) d = AllBelow-move k f (bit_xor x y) (sum-below k x y left right) in
     total-same (2 ^ k) order (λ s. h (encoding x s)) (λ s. h (encoding y (added d s))) (λ s here.
-      looks (encoding x s) (encoding y (added d s)) (Elements-encoding k order x s left here)
-      (Elements-encoding k order y (added d s) right (record {
-        count = length-added d s (omega (arith, here.count)) ∙ here.count;
-        below = AllBelow-added k d s below here.below;
-      }))
-      (λ j other. encoding-moved f x y s j (omega (arith, here.count)) other))
+    looks (encoding x s) (encoding y (added d s)) (Elements-encoding k order x s left here)
+    (Elements-encoding k order y (added d s) right (record {
+      count = length-added d s (omega (arith, here.count)) ∙ here.count;
+      below = AllBelow-added k d s below here.below;
+    }))
+    (λ j other. encoding-moved f x y s j (omega (arith, here.count)) other))
     ∙ total-moved k order d (λ s. h (encoding y s)) short below
 
 -- the encodings of one secret more
@@ -126,8 +126,8 @@ total-encodings-cons q order n x xs h =
     ap (λ (m : ℕ). total q m (λ s. h (encodings order (x ∷ xs) s))) e
     ∙ total-split q order (order * n) (λ s. h (encodings order (x ∷ xs) s))
     ∙ total-same q order (λ a. total q (order * n) (λ b. h (encodings order (x ∷ xs) (a ++ b)))) (λ a. total q (order * n) (λ b. h (encoding x a ++ encodings order xs b)))
-      (λ a here. total-same q (order * n) (λ b. h (encodings order (x ∷ xs) (a ++ b))) (λ b. h (encoding x a ++ encodings order xs b))
-        (λ b there. ap h (encodings-cons order x xs a b here.count)))
+    (λ a here. total-same q (order * n) (λ b. h (encodings order (x ∷ xs) (a ++ b))) (λ b. h (encoding x a ++ encodings order xs b))
+    (λ b there. ap h (encodings-cons order x xs a b here.count)))
 
 -- the shares of one value, and those of n others
 joined : (q order n : ℕ) (e u : List ℕ) → Elements q (suc order) e → Elements q (n * (order + 1)) u → Elements q (suc n * (order + 1)) (e ++ u)
@@ -198,19 +198,21 @@ encodings-law k order (suc n) hidden h (x ∷ xs) (y ∷ ys) within looks left r
     let rights : Elements q n ys = record { count = omega (arith, right.count); below = right.below.1 } in
     total-encodings-cons q order n x xs h
     ∙ total-same q order (λ a. total q (order * n) (λ b. h (encoding x a ++ encodings order xs b))) (λ a. total q (order * n) (λ b. h (encoding x a ++ encodings order ys b)))
-      (λ a here.
-        let e : Elements q (suc order) (encoding x a) = Elements-encoding k order x a left.below.0 here in
-        encodings-law k order n (λ i. hidden (suc i)) (λ u. h (encoding x a ++ u)) xs ys (λ i. within (suc i))
-        (record { same = λ u v first second agree.
+    (λ a here.
+    let e : Elements q (suc order) (encoding x a) = Elements-encoding k order x a left.below.0 here in
+    encodings-law k order n (λ i. hidden (suc i)) (λ u. h (encoding x a ++ u)) xs ys (λ i. within (suc i))
+    (record {
+      same = λ u v first second agree.
           looks.same (encoding x a ++ u) (encoding x a ++ v) (joined q order n (encoding x a) u e first) (joined q order n (encoding x a) v e second)
-          (agree-behind order n hidden (encoding x a) u v e.count agree) })
-        lefts rights)
+          (agree-behind order n hidden (encoding x a) u v e.count agree);
+    })
+    lefts rights)
     ∙ encoding-law k order (hidden 0) x y (λ e. total q (order * n) (λ b. h (e ++ encodings order ys b))) (within 0) left.below.0 right.below.0
-      (λ d e first second agree.
-        total-same q (order * n) (λ b. h (d ++ encodings order ys b)) (λ b. h (e ++ encodings order ys b)) (λ b there.
-          let u : Elements q (n * (order + 1)) (encodings order ys b) = Elements-encodings k order n ys b rights there in
-          looks.same (d ++ encodings order ys b) (e ++ encodings order ys b) (joined q order n d (encodings order ys b) first u) (joined q order n e (encodings order ys b) second u)
-          (agree-before order n hidden d e (encodings order ys b) first.count second.count agree)))
+    (λ d e first second agree.
+    total-same q (order * n) (λ b. h (d ++ encodings order ys b)) (λ b. h (e ++ encodings order ys b)) (λ b there.
+    let u : Elements q (n * (order + 1)) (encodings order ys b) = Elements-encodings k order n ys b rights there in
+    looks.same (d ++ encodings order ys b) (e ++ encodings order ys b) (joined q order n d (encodings order ys b) first u) (joined q order n e (encodings order ys b) second u)
+    (agree-before order n hidden d e (encodings order ys b) first.count second.count agree)))
     ∙ sym (total-encodings-cons q order n y ys h)
 
 -- places that leave f out show the same of lists that are equal but at f

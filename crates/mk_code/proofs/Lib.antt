@@ -4,3 +4,4 @@ pub mod Totals
 pub mod LeftOut
 pub mod Encodings
 pub mod Columns
+pub mod Examples

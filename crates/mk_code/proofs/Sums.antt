@@ -1,5 +1,5 @@
 -- Laws of sums over the numbers below q.
-use Rattle.std.proofs.Common.{◌≡◌, ◌≢◌, ℕ, zero, suc, ◌+◌, ◌^◌, ◌<◌, ◌≤◌, Bool, true, false, nat_eq, if◌then◌else◌, bit_xor, refl, sym, ◌∙◌, ap, arith, inl, inr, eq-eqb, eqb-true, ne_eqb, add_assoc, add_comm, add-zero, zero-add}
+use Rattle.std.proofs.Common.{◌≡◌, ℕ, zero, suc, ◌+◌, ◌^◌, ◌<◌, Bool, nat_eq, if◌then◌else◌, bit_xor, refl, sym, ◌∙◌, ap, arith, inl, inr, eq-eqb, ne_eqb}
 use Rattle.std.proofs.lemmas.Bool.{cases_eq, cond-true, cond-false}
 use Rattle.mk_field.proofs.Sum.{sum-below, sum-cancel}
 use Rattle.mk_code.specs.Counting.{sum_below}
@@ -39,21 +39,21 @@ pub sum_below-single : (q c : ℕ) (f : ℕ → ℕ) → c < q → sum_below q (
 unfolding sum_below
 sum_below-single zero c f below = absurd (omega arith)
 sum_below-single (suc q) c f below = elim (cases_eq q c) [
-    inl same ↦
-    let front : sum_below q (λ a. if nat_eq a c then f a else 0) ≡ 0 =
-    sum_below-same q (λ a. if nat_eq a c then f a else 0) (λ a. 0) (λ a lt. cond-false (nat_eq a c) (f a) 0 (ne_eqb a c (λ e. absurd (omega arith)))) ∙ sum_below-zero q in
-    let last : (if nat_eq q c then f q else 0) ≡ f c = cond-true (nat_eq q c) (f q) 0 (eq-eqb q c same) ∙ ap f same in
-    omega (arith, front, last)
+  | inl same ↦
+      let front : sum_below q (λ a. if nat_eq a c then f a else 0) ≡ 0 =
+      sum_below-same q (λ a. if nat_eq a c then f a else 0) (λ a. 0) (λ a lt. cond-false (nat_eq a c) (f a) 0 (ne_eqb a c (λ e. absurd (omega arith)))) ∙ sum_below-zero q in
+      let last : (if nat_eq q c then f q else 0) ≡ f c = cond-true (nat_eq q c) (f q) 0 (eq-eqb q c same) ∙ ap f same in
+      omega (arith, front, last)
   | inr differ ↦
-    let front : sum_below q (λ a. if nat_eq a c then f a else 0) ≡ f c = sum_below-single q c f (omega arith) in
-    let last : (if nat_eq q c then f q else 0) ≡ 0 = cond-false (nat_eq q c) (f q) 0 (ne_eqb q c differ) in
-    omega (arith, front, last)
+      let front : sum_below q (λ a. if nat_eq a c then f a else 0) ≡ f c = sum_below-single q c f (omega arith) in
+      let last : (if nat_eq q c then f q else 0) ≡ 0 = cond-false (nat_eq q c) (f q) 0 (ne_eqb q c differ) in
+      omega (arith, front, last)
 ]
 
 -- tests that hold together are the same
 tests-same : (a b c d : ℕ) → (a ≡ b → c ≡ d) → (c ≡ d → a ≡ b) → nat_eq a b ≡ nat_eq c d
 tests-same a b c d there back = elim (cases_eq a b) [
-    inl same ↦ eq-eqb a b same ∙ sym (eq-eqb c d (there same))
+  | inl same ↦ eq-eqb a b same ∙ sym (eq-eqb c d (there same))
   | inr differ ↦ ne_eqb a b differ ∙ sym (ne_eqb c d (λ e. differ (back e)))
 ]
 
@@ -65,11 +65,11 @@ sum_below-renamed q swap f closed inverse =
     sum_below-same q (λ a. f (swap a)) (λ a. sum_below q (λ b. if nat_eq b (swap a) then f b else 0)) (λ a lt. sym (sum_below-single q (swap a) f (closed a lt)))
     ∙ sum_below-exchange q q (λ a b. if nat_eq b (swap a) then f b else 0)
     ∙ sum_below-same q (λ b. sum_below q (λ a. if nat_eq b (swap a) then f b else 0)) f (λ b lt.
-      sum_below-same q (λ a. if nat_eq b (swap a) then f b else 0) (λ a. if nat_eq a (swap b) then f b else 0) (λ a below.
-        ap (λ (t : Bool). if t then f b else 0) (tests-same b (swap a) a (swap b)
-          (λ e. sym (inverse a below) ∙ ap swap (sym e))
-          (λ e. sym (inverse b lt) ∙ ap swap (sym e))))
-      ∙ sum_below-single q (swap b) (λ a. f b) (closed b lt))
+    sum_below-same q (λ a. if nat_eq b (swap a) then f b else 0) (λ a. if nat_eq a (swap b) then f b else 0) (λ a below.
+    ap (λ (t : Bool). if t then f b else 0) (tests-same b (swap a) a (swap b)
+    (λ e. sym (inverse a below) ∙ ap swap (sym e))
+    (λ e. sym (inverse b lt) ∙ ap swap (sym e))))
+    ∙ sum_below-single q (swap b) (λ a. f b) (closed b lt))
 
 -- adding an element to all of them leaves the sum
 pub sum_below-moved : (k d : ℕ) (f : ℕ → ℕ) → d < 2 ^ k → sum_below (2 ^ k) (λ a. f (bit_xor d a)) ≡ sum_below (2 ^ k) f

@@ -1,5 +1,5 @@
 -- Laws of totals: sums over all lists of n numbers below q.
-use Rattle.std.proofs.Common.{◌≡◌, ℕ, zero, suc, ◌+◌, ◌^◌, ◌<◌, ◌≤◌, List, [], ◌∷◌, ◌++◌, length, take, drop, bit_xor, refl, sym, ◌∙◌, ap, subst, arith, zero-add, suc-add, length-append, length-drop, length-take-le}
+use Rattle.std.proofs.Common.{◌≡◌, ℕ, zero, suc, ◌+◌, ◌^◌, ◌<◌, ◌≤◌, List, [], ◌∷◌, ◌++◌, length, take, drop, bit_xor, refl, ◌∙◌, ap, arith, zero-add, suc-add, length-append, length-drop, length-take-le}
 use Rattle.mk_field.specs.Sharing.{added}
 use Rattle.mk_code.specs.Counting.{sum_below, total, AllBelow, Elements}
 use Rattle.mk_code.proofs.Sums.{sum_below-same, sum_below-zero, sum_below-add, sum_below-exchange, sum_below-moved}
@@ -79,7 +79,7 @@ total-split q zero n g = ap (λ (k : ℕ). total q k g) (zero-add n)
 total-split q (suc m) n g =
     ap (λ (k : ℕ). total q k g) (suc-add m n)
     ∙ sum_below-same q (λ a. total q (m + n) (λ rest. g (a ∷ rest))) (λ a. total q m (λ s. total q n (λ b. g (a ∷ s ++ b))))
-      (λ a below. total-split q m n (λ rest. g (a ∷ rest)))
+    (λ a below. total-split q m n (λ rest. g (a ∷ rest)))
 
 -- a sum and a total change places
 pub total-sum_below : (p q n : ℕ) (g : ℕ → List ℕ → ℕ)
@@ -89,7 +89,7 @@ total-sum_below p q zero g = refl
 total-sum_below p q (suc n) g =
     sum_below-exchange p q (λ a b. total q n (λ rest. g a (b ∷ rest)))
     ∙ sum_below-same q (λ b. sum_below p (λ a. total q n (λ rest. g a (b ∷ rest)))) (λ b. total q n (λ rest. sum_below p (λ a. g a (b ∷ rest))))
-      (λ b below. total-sum_below p q n (λ a rest. g a (b ∷ rest)))
+    (λ b below. total-sum_below p q n (λ a rest. g a (b ∷ rest)))
 
 -- two totals change places
 pub total-exchange : (q m n : ℕ) (g : List ℕ → List ℕ → ℕ)

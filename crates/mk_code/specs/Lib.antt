@@ -2,6 +2,8 @@ pub mod Listing
 pub mod Draft
 pub mod Trace
 pub mod Counting
+pub mod CountingLaws
 pub mod Private
 pub mod Shares
 pub mod Columns
+pub mod Examples

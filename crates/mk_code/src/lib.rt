@@ -9,10 +9,12 @@
 mod builder;
 mod code;
 mod instr;
+mod laws;
 
 pub use builder::CodeBuilder;
 pub use code::{Code, InstrList, MapList, PositionList};
 pub use instr::Instr;
+pub use laws::{columns_law, counting_laws, encodings_law};
 
 /// The most secrets, public inputs or outputs of a code.
 pub const MOST_INPUTS: u32 = 65_536;

@@ -1,0 +1,16 @@
+-- The two small codes: the square isn't private, and the sum is.
+use Rattle.std.proofs.Common.{◌≡◌, [], ◌∷◌, refl, sym, ◌∙◌, arith}
+use Rattle.mk_code.specs.Counting.{AllBelow}
+use Rattle.mk_code.specs.Private.{ways, Private}
+use Rattle.mk_code.specs.Examples.{leaking_square, leaking_square-0-1, leaking_square-1-1}
+
+-- the square isn't private: the product of its operand's shares tells the secret
+pub leaking_square-not-private : Private leaking_square → ⊥
+unfolding AllBelow
+leaking_square-not-private private =
+    let same : ways leaking_square [] (0 ∷ []) (3 ∷ []) (1 ∷ []) ≡ ways leaking_square [] (1 ∷ []) (3 ∷ []) (1 ∷ []) =
+    private [] (0 ∷ []) (1 ∷ []) (3 ∷ []) (1 ∷ []) (record { count = refl; below = tt })
+    (record { count = refl; below = (omega arith, tt) }) (record { count = refl; below = (omega arith, tt) })
+    (omega arith) (omega arith, tt) in
+    let differ : 2 ≡ 0 = sym leaking_square-0-1 ∙ same ∙ leaking_square-1-1 in
+    absurd (omega (arith, differ))
