@@ -2,7 +2,8 @@
 use Rattle.std.proofs.Common.{◌≡◌, [], ◌∷◌, refl, sym, ◌∙◌, arith}
 use Rattle.mk_code.specs.Counting.{AllBelow}
 use Rattle.mk_code.specs.Private.{ways, Private}
-use Rattle.mk_code.specs.Examples.{leaking_square, leaking_square-0-1, leaking_square-1-1}
+use Rattle.mk_code.proofs.ColumnTest.{works_by_share-private}
+use Rattle.mk_code.specs.Examples.{leaking_square, leaking_square-0-1, leaking_square-1-1, byte_sum}
 
 -- the square isn't private: the product of its operand's shares tells the secret
 pub leaking_square-not-private : Private leaking_square → ⊥
@@ -14,3 +15,7 @@ leaking_square-not-private private =
     (omega arith) (omega arith, tt) in
     let differ : 2 ≡ 0 = sym leaking_square-0-1 ∙ same ∙ leaking_square-1-1 in
     absurd (omega (arith, differ))
+
+-- the sum of two bytes works share by share, and so is private
+pub byte_sum-private : Private byte_sum
+byte_sum-private = works_by_share-private byte_sum refl

@@ -5,3 +5,4 @@ pub mod LeftOut
 pub mod Encodings
 pub mod Columns
 pub mod Examples
+pub mod ColumnTest
