@@ -1,6 +1,6 @@
 -- Boolean sharings (Ishai, Sahai and Wagner, CRYPTO 2003): a value is the sum of its shares. That the
 -- share that corrects the sum stands first is this project's own choice.
-use Rattle.std.specs.Prelude.{◌≡◌, ℕ, List, [], ◌∷◌, ◌++◌, length, take, drop, bit_xor, refl}
+use Rattle.std.specs.Prelude.{◌≡◌, ℕ, zero, suc, List, [], ◌∷◌, ◌++◌, length, take, drop, bit_xor, refl}
 
 -- the sum of a list of elements
 unfoldable pub field_sum : List ℕ → ℕ
@@ -37,3 +37,13 @@ sharing-57 = record { count = refl; sum = refl }
 pub encodings-57-83 : encodings 1 (0x57 ∷ 0x83 ∷ []) (0x55 ∷ 0x55 ∷ []) ≡ 0x02 ∷ 0x55 ∷ 0xd6 ∷ 0x55 ∷ []
 unfolding encodings field_sum
 encodings-57-83 = refl
+
+-- the values of k sharings that stand one after the other, each of n shares
+unfoldable pub decoded : ℕ → ℕ → List ℕ → List ℕ
+decoded n zero shares = []
+decoded n (suc k) shares = field_sum (take n shares) ∷ decoded n k (drop n shares)
+
+-- decoding two sharings of two shares
+pub decoded-57-83 : decoded 2 2 (0x02 ∷ 0x55 ∷ 0xd6 ∷ 0x55 ∷ []) ≡ 0x57 ∷ 0x83 ∷ []
+unfolding decoded field_sum
+decoded-57-83 = refl
