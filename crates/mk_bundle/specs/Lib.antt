@@ -1,0 +1,5 @@
+pub mod Words
+pub mod Blocks
+pub mod Instrs
+pub mod Text
+pub mod Sample
