@@ -11,7 +11,8 @@ use mk_rules::Cert;
 use mk_ssa::{Op, Operand};
 use std::alloc::{AllocError, Global};
 
-/// The bundle text of a code and its certificate. No list has memory for 2^32 bytes.
+/// The bundle text of a code and its certificate. The limits are those of the text that a certificate
+/// doesn't keep by itself.
 pub fn to_text(alloc: Global, code: &Code, cert: &Cert) -> Result<Bytes, Memory>
     requires blocks { length cert.now.blocks ≤ 131072 }
     requires claims { length cert.now.claims ≤ 65536 }
