@@ -1,6 +1,6 @@
 -- Texts that are appended one after the other, and the lines of outputs.
 use Rattle.std.proofs.Common.{◌≡◌, ℕ, suc, List, [], ◌++◌, take, drop, append_assoc}
-use Rattle.mk_bundle.specs.Instrs.{out_line, out_lines}
+use Rattle.mk_bundle.specs.CodeLines.{out_line, out_lines}
 
 -- no output has no line
 pub out_lines-none : (shares outputs : ℕ) (places : List ℕ) → outputs ≡ 0 → out_lines shares outputs places ≡ []

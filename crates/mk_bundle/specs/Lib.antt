@@ -1,5 +1,5 @@
 pub mod Words
-pub mod Blocks
-pub mod Instrs
+pub mod CertLines
+pub mod CodeLines
 pub mod Text
 pub mod Sample

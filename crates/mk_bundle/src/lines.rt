@@ -1,7 +1,7 @@
 ghost use Rattle.std.specs.Prelude.{◌≡◌, ◌++◌, OnOk, string_bytes, flat_map};
 ghost use Rattle.mk_bundle.specs.Words.{hex_byte, operand_word};
-ghost use Rattle.mk_bundle.specs.Blocks.{block_line, pair_words, mapped_words, op_line, claim_line};
-ghost use Rattle.mk_bundle.specs.Instrs.{map_line, instr_line, place_word, out_line};
+ghost use Rattle.mk_bundle.specs.CertLines.{block_line, pair_words, mapped_words, op_line, claim_line};
+ghost use Rattle.mk_bundle.specs.CodeLines.{map_line, instr_line, place_word, out_line};
 
 use crate::words::{push_hex, push_operand};
 use mk_code::Instr;

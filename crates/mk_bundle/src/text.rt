@@ -1,6 +1,6 @@
 ghost use Rattle.std.specs.Prelude.{◌≡◌, ◌≤◌, ◌<◌, ◌/◌, ◌++◌, length, IfOk, OnOk, string_bytes, flat_map};
-ghost use Rattle.mk_bundle.specs.Blocks.{op_line, claim_line};
-ghost use Rattle.mk_bundle.specs.Instrs.{map_line, instr_line, out_lines};
+ghost use Rattle.mk_bundle.specs.CertLines.{op_line, claim_line};
+ghost use Rattle.mk_bundle.specs.CodeLines.{map_line, instr_line, out_lines};
 ghost use Rattle.mk_bundle.specs.Text.{field_line, number_line, head_lines, text};
 
 use crate::lines::{push_claim, push_instr, push_map, push_op, push_out};

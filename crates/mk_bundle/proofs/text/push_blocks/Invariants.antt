@@ -1,6 +1,6 @@
 -- What is appended for the blocks so far.
 use Rattle.std.proofs.Common.{◌≡◌, ◌++◌, take, flat_map, string_bytes}
-use Rattle.mk_bundle.specs.Blocks.{op_line}
+use Rattle.mk_bundle.specs.CertLines.{op_line}
 use Rattle.mk_bundle.proofs.text.push_blocks.Given as goal
 
 abbrev pub invariant-loop-op : goal.invariant-loop-op

@@ -1,6 +1,6 @@
 -- What is appended for the maps so far.
 use Rattle.std.proofs.Common.{◌≡◌, ◌++◌, take, flat_map, string_bytes}
-use Rattle.mk_bundle.specs.Instrs.{map_line}
+use Rattle.mk_bundle.specs.CodeLines.{map_line}
 use Rattle.mk_bundle.proofs.text.push_maps.Given as goal
 
 abbrev pub invariant-loop-map : goal.invariant-loop-map
