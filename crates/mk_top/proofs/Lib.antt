@@ -1,0 +1,5 @@
+pub mod Fronts
+pub mod Tokens
+pub mod Phrases
+pub mod Trees
+pub mod Cases

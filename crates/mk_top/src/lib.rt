@@ -1,0 +1,6 @@
+//! The compiler: it reads source texts, and finds the programs that they spell.
+#![tactic(auto)]
+
+mod first;
+
+pub use first::Program;
