@@ -17,11 +17,12 @@ abbrev pub Tells : {X Y : Type 0} → (X → Y) → Option X → Option Y → Ty
 Tells view (Some x) read = read ≡ Some (view x)
 Tells view None read = read ≡ None
 
--- the same, unless memory ran out
+-- a refusal says that nothing is read, unless memory ran out
 abbrev pub Fails : {Y : Type 0} → SourceRefusal → Option Y → Type 0
 Fails refusals.Memory read = Unit {0}
 Fails refusals.NotYet read = read ≡ None
 
+-- what a function that may run out of memory returned is what reading gives
 abbrev pub Gives : {X Y : Type 0} → (X → Y) → Result X SourceRefusal → Option Y → Type 0
 Gives view (Ok x) read = read ≡ Some (view x)
 Gives view (Err e) read = Fails e read
