@@ -10,3 +10,6 @@ pub mod Laying
 pub mod Names
 pub mod SumCode
 pub mod SumMeaning
+pub mod Commands
+pub mod Compiled
+pub mod Ends

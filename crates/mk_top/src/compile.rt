@@ -153,6 +153,7 @@ pub(crate) fn compile(alloc: Global, program: &Program, order: u8) -> Result<Bun
     ensures compiled { IfOk result (λ bundle. IsCompiled program.now order bundle.code bundle.cert) }
     ensures correct { IfOk result (λ bundle. Correct program.now order bundle.code) }
     ensures private { IfOk result (λ bundle. Private bundle.code) }
+    ensures few { IfOk result (λ bundle. (length bundle.cert.blocks ≤ 63) × (length bundle.cert.claims ≤ 1)) }
 {
     let numbers = part_numbers(alloc, program)?;
     let secrets = program.secrets.len() as u32;

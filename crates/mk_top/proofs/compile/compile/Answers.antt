@@ -9,7 +9,7 @@ use Rattle.mk_rules.specs.Claimed.{Claimed}
 use Rattle.mk_top.specs.Chain.{sum_code, sum_cert}
 use Rattle.mk_top.specs.Correct.{Correct}
 use Rattle.mk_top.specs.Compiled.{IsCompiled, numbers_of}
-use Rattle.mk_top.proofs.SumMeaning.{program-compiled, program-correct, program-private, first-below, rest-below, answered-with}
+use Rattle.mk_top.proofs.SumMeaning.{program-compiled, program-correct, program-private, first-below, rest-below, answered-with, HasFew, has-few, rest-few}
 use Rattle.mk_top.proofs.compile.compile.Goals as goal
 use Rattle.mk_top.proofs.compile.compile.Goals.{After-unwrap}
 
@@ -63,3 +63,10 @@ returns-clause-private c =
     answered at c.sum_bundle.result c.len-secrets.result c.len-secrets.ensures.count c.sum_bundle.ensures.code c.sum_bundle.ensures.cert
     (λ code cert. Private code)
     (program-private c.args.program.now c.args.order _ _ c.requires.program c.requires.order.0 c.requires.order.1 (named at))
+
+pub returns-clause-few : goal.returns-clause-few
+returns-clause-few c =
+    let at = (goal.at.returns-clause-few c).After-unwrap in
+    answered at c.sum_bundle.result c.len-secrets.result c.len-secrets.ensures.count c.sum_bundle.ensures.code c.sum_bundle.ensures.cert
+    (λ code cert. HasFew cert)
+    (has-few _ _ (rest-few c.args.program.now c.args.order _ _ c.requires.program c.requires.order.0 c.requires.order.1 (named at)))
