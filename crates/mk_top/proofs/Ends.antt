@@ -21,7 +21,6 @@ fault-of_words Memory e = cc
 fault-of_words (TooLong at) e = cc
 
 module _ (words : List (List ℕ)) (given after : Option (List ℕ)) (faults now : ℕ) (before taken : Option (List ℕ)) (writes then_writes : ℕ) where
-
   -- refused words are no form
   pub ends-words : (fault : Fault) → Stopped words given after faults now before taken writes then_writes fault → status_of fault ≡ status.Words → IsNoForm words
   ends-words Words stopped e = stopped
@@ -36,38 +35,38 @@ module _ (words : List (List ℕ)) (given after : Option (List ℕ)) (faults now
       → (Rose faults now → ⊥) → IfSome given (λ bytes. source_limit < length bytes → IsOrMemory (status_of fault) status.TooLong)
   ends-too_long fault stopped form calm =
       elim given as (λ g. Stopped words g after faults now before taken writes then_writes fault
-              → IfSome g (λ bytes. source_limit < length bytes → IsOrMemory (status_of fault) status.TooLong)) [
-          None ↦ λ _. tt
+      → IfSome g (λ bytes. source_limit < length bytes → IsOrMemory (status_of fault) status.TooLong)) [
+        | None ↦ λ _. tt
         | Some bytes ↦ λ s long. go bytes fault s long
       ] stopped
-      where
-        go : (bytes : List ℕ) (f : Fault) → Stopped words (Some bytes) after faults now before taken writes then_writes f
-            → source_limit < length bytes → IsOrMemory (status_of f) status.TooLong
-        go bytes Words s long = absurd (s form.0 form.1)
-        go bytes NotYet s long = absurd (omega (arith, long, s.1.1.0))
-        go bytes ReadFault s long = absurd (calm s.1.0)
-        go bytes WriteFault s long = absurd (omega (arith, long, s.makes.read.0))
-        go bytes Memory s long = inr refl
-        go bytes (TooLong at) s long = inl refl
+    where
+      go : (bytes : List ℕ) (f : Fault) → Stopped words (Some bytes) after faults now before taken writes then_writes f
+          → source_limit < length bytes → IsOrMemory (status_of f) status.TooLong
+      go bytes Words s long = absurd (s form.0 form.1)
+      go bytes NotYet s long = absurd (omega (arith, long, s.1.1.0))
+      go bytes ReadFault s long = absurd (calm s.1.0)
+      go bytes WriteFault s long = absurd (omega (arith, long, s.makes.read.0))
+      go bytes Memory s long = inr refl
+      go bytes (TooLong at) s long = inl refl
 
   -- bytes within the limit that no program spells
   pub ends-source : (fault : Fault) → Stopped words given after faults now before taken writes then_writes fault → IsForm words
       → (Rose faults now → ⊥) → IfSome given (λ bytes. length bytes ≤ source_limit → IsNoSource bytes → IsOrMemory (status_of fault) status.Source)
   ends-source fault stopped form calm =
       elim given as (λ g. Stopped words g after faults now before taken writes then_writes fault
-              → IfSome g (λ bytes. length bytes ≤ source_limit → IsNoSource bytes → IsOrMemory (status_of fault) status.Source)) [
-          None ↦ λ _. tt
+      → IfSome g (λ bytes. length bytes ≤ source_limit → IsNoSource bytes → IsOrMemory (status_of fault) status.Source)) [
+        | None ↦ λ _. tt
         | Some bytes ↦ λ s short none. go bytes fault s short none
       ] stopped
-      where
-        go : (bytes : List ℕ) (f : Fault) → Stopped words (Some bytes) after faults now before taken writes then_writes f
-            → length bytes ≤ source_limit → IsNoSource bytes → IsOrMemory (status_of f) status.Source
-        go bytes Words s short none = absurd (s form.0 form.1)
-        go bytes NotYet s short none = inl refl
-        go bytes ReadFault s short none = absurd (calm s.1.0)
-        go bytes WriteFault s short none = absurd (none s.makes.compiles.program s.makes.compiles.source.0)
-        go bytes Memory s short none = inr refl
-        go bytes (TooLong at) s short none = absurd (omega (arith, short, s.1.1.within, s.1.1.many))
+    where
+      go : (bytes : List ℕ) (f : Fault) → Stopped words (Some bytes) after faults now before taken writes then_writes f
+          → length bytes ≤ source_limit → IsNoSource bytes → IsOrMemory (status_of f) status.Source
+      go bytes Words s short none = absurd (s form.0 form.1)
+      go bytes NotYet s short none = inl refl
+      go bytes ReadFault s short none = absurd (calm s.1.0)
+      go bytes WriteFault s short none = absurd (none s.makes.compiles.program s.makes.compiles.source.0)
+      go bytes Memory s short none = inr refl
+      go bytes (TooLong at) s short none = absurd (omega (arith, short, s.1.1.within, s.1.1.many))
 
   -- bytes within the limit that a program spells
   pub ends-done : (fault : Fault) → Stopped words given after faults now before taken writes then_writes fault → IsForm words
@@ -75,16 +74,16 @@ module _ (words : List (List ℕ)) (given after : Option (List ℕ)) (faults now
       → IfSome given (λ bytes. length bytes ≤ source_limit → (p : Program) → Spells p bytes → IsOrMemory (status_of fault) status.Done)
   ends-done fault stopped form calm still =
       elim given as (λ g. Stopped words g after faults now before taken writes then_writes fault
-              → IfSome g (λ bytes. length bytes ≤ source_limit → (p : Program) → Spells p bytes → IsOrMemory (status_of fault) status.Done)) [
-          None ↦ λ _. tt
+      → IfSome g (λ bytes. length bytes ≤ source_limit → (p : Program) → Spells p bytes → IsOrMemory (status_of fault) status.Done)) [
+        | None ↦ λ _. tt
         | Some bytes ↦ λ s short p spells. go bytes fault s short p spells
       ] stopped
-      where
-        go : (bytes : List ℕ) (f : Fault) → Stopped words (Some bytes) after faults now before taken writes then_writes f
-            → length bytes ≤ source_limit → (p : Program) → Spells p bytes → IsOrMemory (status_of f) status.Done
-        go bytes Words s short p spells = absurd (s form.0 form.1)
-        go bytes NotYet s short p spells = absurd (s.1.0 p spells)
-        go bytes ReadFault s short p spells = absurd (calm s.1.0)
-        go bytes WriteFault s short p spells = absurd (still s.rose)
-        go bytes Memory s short p spells = inr refl
-        go bytes (TooLong at) s short p spells = absurd (omega (arith, short, s.1.1.within, s.1.1.many))
+    where
+      go : (bytes : List ℕ) (f : Fault) → Stopped words (Some bytes) after faults now before taken writes then_writes f
+          → length bytes ≤ source_limit → (p : Program) → Spells p bytes → IsOrMemory (status_of f) status.Done
+      go bytes Words s short p spells = absurd (s form.0 form.1)
+      go bytes NotYet s short p spells = absurd (s.1.0 p spells)
+      go bytes ReadFault s short p spells = absurd (calm s.1.0)
+      go bytes WriteFault s short p spells = absurd (still s.rose)
+      go bytes Memory s short p spells = inr refl
+      go bytes (TooLong at) s short p spells = absurd (omega (arith, short, s.1.1.within, s.1.1.many))

@@ -13,3 +13,6 @@ pub use fault::Fault;
 pub use first::Program;
 pub use status::{Status, code_of};
 pub use top::mask_main;
+
+#[cfg(test)]
+mod tests;

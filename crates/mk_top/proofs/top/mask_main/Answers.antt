@@ -18,14 +18,14 @@ returns-in-Err-clause-words_only g c is =
 pub returns-in-Err-clause-too_long : goal.returns-in-Err-clause-too_long
 returns-in-Err-clause-too_long g c form calm =
     subst (λ (s : Status). IfSome (g.S.Source.left c.args.src.now) (λ bytes. source_limit < length bytes → IsOrMemory s status.TooLong)) (sym c.status.ensures)
-        (ends-too_long _ _ _ _ _ _ _ _ _ c.in-Err.fault c.in-Err.ensures.stopped form calm)
+    (ends-too_long _ _ _ _ _ _ _ _ _ c.in-Err.fault c.in-Err.ensures.stopped form calm)
 
 pub returns-in-Err-clause-source : goal.returns-in-Err-clause-source
 returns-in-Err-clause-source g c form calm =
     subst (λ (s : Status). IfSome (g.S.Source.left c.args.src.now) (λ bytes. length bytes ≤ source_limit → IsNoSource bytes → IsOrMemory s status.Source)) (sym c.status.ensures)
-        (ends-source _ _ _ _ _ _ _ _ _ c.in-Err.fault c.in-Err.ensures.stopped form calm)
+    (ends-source _ _ _ _ _ _ _ _ _ c.in-Err.fault c.in-Err.ensures.stopped form calm)
 
 pub returns-in-Err-clause-done : goal.returns-in-Err-clause-done
 returns-in-Err-clause-done g c form calm still =
     subst (λ (s : Status). IfSome (g.S.Source.left c.args.src.now) (λ bytes. length bytes ≤ source_limit → (p : Program) → Spells p bytes → IsOrMemory s status.Done)) (sym c.status.ensures)
-        (ends-done _ _ _ _ _ _ _ _ _ c.in-Err.fault c.in-Err.ensures.stopped form calm still)
+    (ends-done _ _ _ _ _ _ _ _ _ c.in-Err.fault c.in-Err.ensures.stopped form calm still)
