@@ -1,8 +1,9 @@
 -- What a source or a sink tells, over several calls in a row.
-use Rattle.std.proofs.Common.{◌≡◌, ℕ, ◌+◌, ◌-◌, ◌≤◌, List, ◌++◌, length, take, drop, Option, Some, None, IfSome, sym, ◌∙◌, ap, subst, arith, append_assoc}
+use Rattle.std.proofs.Common.{◌≡◌, ℕ, ◌+◌, ◌-◌, ◌≤◌, List, [], ◌++◌, length, take, drop, Option, Some, None, IfSome, sym, ◌∙◌, ap, subst, arith, append_assoc}
 use Rattle.std.proofs.Math.Seq.{take-add, take-length}
 use Rattle.std.proofs.lemmas.List.{drop-drop, length-drop, length-append, length-take-le}
 use Rattle.mk_base.specs.Outside.{GivesNext, TakesFront}
+use Rattle.mk_base.specs.Streams.{ReadsAll}
 
 -- a further front of the piece behind the part that was taken
 pub taken-more : (told mid after : Option (List ℕ)) (piece : List ℕ) (start n : ℕ)
@@ -38,6 +39,25 @@ came-more (Some rest) mid after bytes buffer n fits came next =
           ap (λ (l : List ℕ). l ++ take n buffer) came.front ∙ ap (λ (l : List ℕ). take (length bytes) rest ++ l) step.bytes
           ∙ sym (take-add (length bytes) n rest) ∙ ap (λ (k : ℕ). take k rest) (sym grown);
       left = step.taken ∙ ap Some (drop-drop n (length bytes) rest ∙ ap (λ (k : ℕ). drop k rest) (sym grown));
+    }
+
+-- where no byte is left behind those that came, they are all that were left
+pub came-all : (told mid after : Option (List ℕ)) (bytes buffer : List ℕ)
+    → IfSome told (λ rest. Came bytes rest mid)
+    → IfSome mid (λ rest. GivesNext rest 0 buffer after)
+    → IfSome mid (λ rest. rest ≡ [])
+    → IfSome told (λ rest. ReadsAll rest bytes after)
+came-all None mid after bytes buffer came next end = tt
+came-all (Some rest) mid after bytes buffer came next end =
+    let step : GivesNext (drop (length bytes) rest) 0 buffer after =
+    subst (λ (m : Option (List ℕ)). IfSome m (λ r. GivesNext r 0 buffer after)) came.left next in
+    let none : drop (length bytes) rest ≡ [] =
+    subst (λ (m : Option (List ℕ)). IfSome m (λ r. r ≡ [])) came.left end in
+    let count : length rest - length bytes ≡ 0 = sym (length-drop (length bytes) rest) ∙ ap length none in
+    let same : length bytes ≡ length rest = omega (arith, count, came.within)
+    in record {
+      whole = came.front ∙ ap (λ (k : ℕ). take k rest) same ∙ take-length rest;
+      end = step.taken ∙ ap Some none;
     }
 
 -- what stands behind a place in a list, as a range says it

@@ -111,3 +111,20 @@ impl<T: Copy> Items<T> {
         Ok(Items { items })
     }
 }
+
+#[cfg(test)]
+mod tests {
+    use super::*;
+
+    #[test]
+    fn pushes_and_copies(rt: HostRuntime) -> Result<(), Memory> {
+        let mut items = Items::new(rt.alloc());
+        for item in [3u8, 1, 2] {
+            items.push(item)?;
+        }
+        let copied = items.copy(rt.alloc())?;
+        assert_eq!(rt; copied.as_slice(), [3, 1, 2].as_slice());
+        assert_eq!(rt; copied.len(), 3);
+        Ok(())
+    }
+}

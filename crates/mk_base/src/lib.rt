@@ -24,3 +24,16 @@ pub struct Place {
     pub line: u32,
     pub column: u32,
 }
+
+/// Which of the words of elements that a program is given.
+#[derive(Clone, Copy, Debug, PartialEq, Eq)]
+pub enum Which {
+    /// The public inputs.
+    Public,
+    /// The secrets.
+    Secret,
+    /// The secrets of the other of two worlds.
+    Other,
+    /// The random elements.
+    Tape,
+}

@@ -1,5 +1,5 @@
 ghost use Rattle.std.specs.Prelude.{◌≡◌, ◌≤◌, ◌<◌, ◌-◌, ◌↔◌, ◌⊎◌, ℕ, List, Option, Some, Ok, [], length, take, drop, min, Contains, IsTrue, IsErr, IfOk, IfSome, OnErr, OnOk};
-ghost use Rattle.mk_base.specs.Outside.{Rose, GivesNext, TakesFront};
+ghost use Rattle.mk_base.specs.Outside.{Rose, one_more, GivesNext, TakesFront};
 ghost use Rattle.mk_base.specs.Fed.{next_call};
 
 use crate::items::Memory;
@@ -9,7 +9,7 @@ use std::marker::Model;
 
 /// A source over memory, which gives at most `most` bytes for each read and fails at the calls whose
 /// numbers are in its list, the first call being number 1.
-#[derive(Drop)]
+#[derive(Debug, Drop)]
 pub struct MemSource {
     bytes: Vec<u8>,
     at: usize,
@@ -63,6 +63,8 @@ impl Source for MemSource {
         // It fails at just the calls of its list, and else gives as many bytes as it can.
         ensures listed { IsErr result ↔ Contains self.old.fail (next_call self.old.calls) }
         ensures most { IfOk result (λ n. n ≡ min (min self.old.most (length buf.old)) (length self.old.rest)) }
+        ensures counted { OnErr result (self.new.faults ≡ one_more self.old.faults) }
+        ensures uncounted { OnOk result (self.new.faults ≡ self.old.faults) }
         ensures calls { self.new.calls ≡ next_call self.old.calls }
         ensures same { (self.new.most ≡ self.old.most) × (self.new.fail ≡ self.old.fail) }
     {
@@ -89,7 +91,7 @@ fn is_listed(fail: &[u32], call: u64) -> bool
 /// A sink over memory with room for a number of bytes. It takes at most `most` bytes for each write,
 /// and fails where no room is left and at the calls whose numbers are in its list, the first call
 /// being number 1.
-#[derive(Drop)]
+#[derive(Debug, Drop)]
 pub struct MemSink {
     bytes: Vec<u8>,
     room: usize,
@@ -151,6 +153,8 @@ impl Sink for MemSink {
         // bytes as it can.
         ensures listed { IsErr result ↔ (Contains self.old.fail (next_call self.old.calls) ⊎ (self.old.room ≤ length self.old.bytes)) }
         ensures most { IfOk result (λ n. n ≡ min (min self.old.most (self.old.room - length self.old.bytes)) (length piece.now)) }
+        ensures counted { OnErr result (self.new.faults ≡ one_more self.old.faults) }
+        ensures uncounted { OnOk result (self.new.faults ≡ self.old.faults) }
         ensures calls { self.new.calls ≡ next_call self.old.calls }
         ensures same { (self.new.room ≡ self.old.room) × (self.new.most ≡ self.old.most) × (self.new.fail ≡ self.old.fail) }
     {

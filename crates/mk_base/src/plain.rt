@@ -4,7 +4,7 @@ use crate::outside::{Failed, Sink, Source};
 use std::marker::Model;
 
 /// A source over borrowed bytes, which tells them and never fails. Contracts see the bytes left.
-#[derive(Drop)]
+#[derive(Debug, Drop)]
 pub struct SureSource<'a> {
     bytes: &'a [u8],
 }
@@ -41,7 +41,7 @@ impl Source for SureSource<'_> {
 }
 
 /// A sink that takes every piece whole, keeps nothing of it, tells nothing and never fails.
-#[derive(Drop)]
+#[derive(Debug, Drop)]
 pub struct DropSink;
 
 impl DropSink {
@@ -62,7 +62,9 @@ impl Sink for DropSink {
 
     ghost faults = { λ _. 0 };
 
-    fn write(&mut self, piece: &[u8]) -> Result<usize, Failed> {
+    fn write(&mut self, piece: &[u8]) -> Result<usize, Failed>
+        ensures { result ≡ Ok (length piece.now) }
+    {
         Ok(piece.len())
     }
 }

@@ -1,5 +1,6 @@
 -- A code in the making.
-use Rattle.std.specs.Prelude.{ℕ, ◌+◌, ◌≤◌, ◌<◌, List, length}
+use Rattle.std.specs.Prelude.{◌≡◌, ℕ, ◌+◌, ◌*◌, ◌≤◌, ◌<◌, List, length, All}
+use Rattle.mk_base.specs.declared.TheConstants.{TOP_ORDER}
 use Rattle.mk_field.specs.declared.field.FieldId.{FieldId}
 use Rattle.mk_field.specs.declared.map.AddMap.{AddMap}
 use Rattle.mk_code.specs.declared.instr.Instr.{Instr}
@@ -22,6 +23,13 @@ draft_len d = inputs_len d.order d.secrets d.publics + length d.instrs
 -- the code with these outs
 abbrev pub finished : FieldId → Draft → List ℕ → Listing
 finished field d outs = record { field = field; order = d.order; secrets = d.secrets; publics = d.publics; maps = d.maps; instrs = d.instrs; outs = outs }
+
+-- a code in the making is whole with these outs: its order is in range, and they are in the trace
+-- and as many for each output as there are shares
+pub record IsWholeWith (d : Draft) (places : List ℕ) : Type 0 where
+  pub order : (1 ≤ d.order) × (d.order ≤ TOP_ORDER)
+  pub outs : All (λ p. p < draft_len d) places
+  pub outputs : (outputs : ℕ) × (outputs ≤ MOST_INPUTS) × (length places ≡ outputs * (d.order + 1))
 
 -- what always holds of a code in the making
 pub record IsDraft (field : FieldId) (d : Draft) : Type 0 where

@@ -1,6 +1,6 @@
 ghost use Rattle.std.specs.Prelude.{◌≡◌, ◌+◌, ◌-◌, ◌*◌, ◌≤◌, ◌<◌, ◌≢◌, ◌++◌, ◌∷◌, [], length, OnOk, OnErr, IsTrue, ◌↔◌};
-ghost use Rattle.mk_code.specs.Listing.{FitsAt, IsListing, HasMapsOnlyInBytes};
-ghost use Rattle.mk_code.specs.Draft.{draft_len, finished};
+ghost use Rattle.mk_code.specs.Listing.{FitsAt, HasMapsOnlyInBytes};
+ghost use Rattle.mk_code.specs.Draft.{IsWholeWith, draft_len, finished};
 
 use crate::code::{Code, MapList, PositionList};
 use crate::instr::Instr;
@@ -100,9 +100,10 @@ impl<F: Field> CodeBuilder<F> {
         self.len() == 0
     }
 
-    /// The code with these outs: places in the trace, one for each share of each output.
+    /// The code with these outs: places in the trace, one for each share of each output. It takes no
+    /// memory.
     pub fn finish(self, outs: PositionList) -> Code
-        requires { IsListing (finished F.ID self outs) }
+        requires { IsWholeWith self outs }
         ensures { result ≡ finished F.ID self outs }
     {
         let CodeBuilder {
@@ -124,5 +125,28 @@ impl<F: Field> CodeBuilder<F> {
             outs,
             random_len,
         }
+    }
+}
+
+#[cfg(test)]
+mod tests {
+    use super::*;
+    use mk_field::Gf256;
+
+    #[test]
+    fn builds_a_sum(rt: HostRuntime) -> Result<(), Memory> {
+        let alloc = rt.alloc();
+        let mut builder = CodeBuilder::<Gf256>::new(alloc, 1, 2, 0, Items::new(alloc));
+        builder.reserve(2)?;
+        let first = builder.push(Instr::Add { left: 0, right: 2 });
+        let second = builder.push(Instr::Add { left: 1, right: 3 });
+        let mut outs = Items::new(alloc);
+        outs.push(first)?;
+        outs.push(second)?;
+        let code = builder.finish(outs);
+        assert_eq!(rt; code.trace_len(), 6);
+        assert_eq!(rt; code.randoms(), 0);
+        assert_eq!(rt; code.outs().as_slice(), [4, 5].as_slice());
+        Ok(())
     }
 }

@@ -51,9 +51,11 @@ pub trait Field {
 }
 
 /// GF(2): the sum is exclusive or.
+#[derive(Clone, Copy, Debug, PartialEq, Eq)]
 pub struct Gf2;
 
 /// GF(2^8), as in FIPS 197 section 4: the sum is exclusive or.
+#[derive(Clone, Copy, Debug, PartialEq, Eq)]
 pub struct Gf256;
 
 impl Field for Gf2 {
@@ -71,7 +73,7 @@ impl Field for Gf2 {
     const SIZE: u16 = 2;
 
     fn add(a: u8, b: u8) -> u8 {
-        a ^ b
+        exclusive_or(a, b)
     }
 }
 
@@ -90,6 +92,13 @@ impl Field for Gf256 {
     const SIZE: u16 = 256;
 
     fn add(a: u8, b: u8) -> u8 {
-        a ^ b
+        exclusive_or(a, b)
     }
+}
+
+/// The sum, which is the same in both fields.
+fn exclusive_or(a: u8, b: u8) -> u8
+    ensures { result ≡ bit_xor a b }
+{
+    a ^ b
 }

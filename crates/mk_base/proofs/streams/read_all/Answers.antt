@@ -1,7 +1,8 @@
 -- One more piece came.
-use Rattle.std.proofs.Common.{arith, ℕ, ◌≡◌, ◌++◌, ◌≤◌, List, IfSome, length, take, subst, sym}
+use Rattle.std.proofs.Common.{arith, ℕ, ◌≡◌, ◌++◌, ◌≤◌, ◌<◌, List, [], Ok, IfSome, length, take, subst, sym, ap, ◌∙◌}
 use Rattle.std.proofs.lemmas.Grind.{common_steps}
-use Rattle.mk_base.proofs.Told.{Came, came-more}
+use Rattle.mk_base.specs.Outside.{GivesNext}
+use Rattle.mk_base.proofs.Told.{Came, came-more, came-all}
 use Rattle.mk_base.proofs.streams.read_all.Goals as goal
 
 pub loop-bytes-preserved : goal.loop-bytes-preserved
@@ -15,3 +16,12 @@ loop-bytes-preserved g c =
       came = subst (λ (xs : List ℕ). IfSome (g.S.Source.left c.args.src.now) (λ rest. Came xs rest (g.S.Source.left c.read.new.self))) (sym grown) came;
       falls = omega (arith, c.loop-bytes.invariant.falls, c.read.ensures.never_falls);
     }
+
+pub returns-then-count-eq0-clause-ok : goal.returns-then-count-eq0-clause-ok
+returns-then-count-eq0-clause-ok g c =
+    let zero : c.in_ok-count.count ≡ 0 = c.if-count-eq0.true in
+    let room : 0 < length c.loop-bytes.buf = grind (arith, common_steps) in
+    let next : IfSome (g.S.Source.left c.loop-bytes.src) (λ rest. GivesNext rest 0 c.read.new.buf (g.S.Source.left c.read.new.self)) =
+    subst (λ (n : ℕ). IfSome (g.S.Source.left c.loop-bytes.src) (λ rest. GivesNext rest n c.read.new.buf (g.S.Source.left c.read.new.self))) zero c.in_ok-count.ensures.bytes in
+    let end : IfSome (g.S.Source.left c.loop-bytes.src) (λ rest. rest ≡ []) = c.read.ensures.end (c.in_ok-count.was ∙ ap Ok zero) room
+    in rw c.from_vec.ensures (came-all _ _ _ c.loop-bytes.bytes.items c.read.new.buf c.loop-bytes.invariant.came next end)

@@ -13,7 +13,7 @@ loop-start-preserved g c =
     (λ (xs : List ℕ). IfSome (g.O.Sink.taken c.loop-start.sink) (λ before. TakesFront before xs c.in_ok-count.count (g.O.Sink.taken c.write.new.self)))
     (range-from c.loop-start.start c.args.piece.now) c.in_ok-count.ensures.bytes
     in record {
-      within = omega (arith, length-drop c.loop-start.start c.args.piece.now, c.in_ok-count.ensures.count, range-from c.loop-start.start c.args.piece.now);
+      within = omega (arith, length-drop c.loop-start.start c.args.piece.now, c.in_ok-count.ensures.count);
       taken = taken-more _ _ _ c.args.piece.now c.loop-start.start c.in_ok-count.count c.loop-start.invariant.taken next;
       falls = omega (arith, c.loop-start.invariant.falls, c.write.ensures.never_falls);
     }
