@@ -8,6 +8,7 @@ use Rattle.std.proofs.lemmas.Bool.{cases_lt}
 use Rattle.std.proofs.Math.Nat.{mod-one, mod-eq_of_lt}
 use Rattle.std.proofs.Math.Numerals.{one-add}
 use Rattle.mk_field.specs.Field.{sum_bits}
+use Rattle.mk_field.specs.Laws.{IsAdditive}
 use Rattle.mk_field.proofs.Sum.{sum-interchange}
 
 -- f at a place where the bit is 1, and else 0
@@ -21,7 +22,7 @@ bit_cases (suc zero) below = inr refl
 bit_cases (suc (suc n)) below = absurd (omega arith)
 
 -- a value at the sum of two bits
-at_bit-sum : (a b value : ℕ) → a < 2 → b < 2 → at_bit ((a + b) % 2) value ≡ bit_xor (at_bit a value) (at_bit b value)
+pub at_bit-sum : (a b value : ℕ) → a < 2 → b < 2 → at_bit ((a + b) % 2) value ≡ bit_xor (at_bit a value) (at_bit b value)
 at_bit-sum a b value left right = elim (bit_cases a left) [
   | inl p ↦ elim (bit_cases b right) [ inl q ↦ rw (p, q) refl | inr q ↦ rw (p, q) (sym (xor_zero_l value)) ]
   | inr p ↦ elim (bit_cases b right) [ inl q ↦ rw (p, q) (sym (xor_zero_r value)) | inr q ↦ rw (p, q) (sym (xor_self value)) ]
@@ -32,7 +33,7 @@ at_bit-values : (bit x y : ℕ) → bit < 2 → at_bit bit (bit_xor x y) ≡ bit
 at_bit-values bit x y below = elim (bit_cases bit below) [ inl p ↦ rw p refl | inr p ↦ rw p refl ]
 
 -- a value at a bit stays below a bound
-at_bit-below : (k bit value : ℕ) → bit < 2 → value < 2 ^ k → at_bit bit value < 2 ^ k
+pub at_bit-below : (k bit value : ℕ) → bit < 2 → value < 2 ^ k → at_bit bit value < 2 ^ k
 at_bit-below k bit value below small = elim (bit_cases bit below) [ inl p ↦ rw p (pow_pos k) | inr p ↦ rw p small ]
 
 -- the sum over the bits of a sum
@@ -127,13 +128,8 @@ sum_bits-mod (suc n) a =
 pub sum_bits-powers : (n a : ℕ) → a < 2 ^ n → sum_bits n (λ i. 2 ^ i) a ≡ a
 sum_bits-powers n a below = sum_bits-mod n a ∙ mod-eq_of_lt below
 
--- h takes sums of numbers of k bits to sums
-pub IsAdditive : ℕ → (ℕ → ℕ) → Type 0
-IsAdditive k h = (a b : ℕ) → a < 2 ^ k → b < 2 ^ k → h (bit_xor a b) ≡ bit_xor (h a) (h b)
-
 -- an additive function takes 0 to 0
 additive-zero : (k : ℕ) (h : ℕ → ℕ) → IsAdditive k h → h 0 ≡ 0
-unfolding IsAdditive
 additive-zero k h additive = additive 0 0 (pow_pos k) (pow_pos k) ∙ xor_self (h 0)
 
 -- an additive function at a value that a bit may leave out
@@ -144,7 +140,7 @@ additive-at_bit k h additive bit value below =
 -- an additive function takes the sum over the set bits to the sum of its values
 pub additive-sum_bits : (n k : ℕ) (h f : ℕ → ℕ) (b : ℕ) → IsAdditive k h → ((i : ℕ) → i < n → f i < 2 ^ k)
     → h (sum_bits n f b) ≡ sum_bits n (λ i. h (f i)) b
-unfolding sum_bits IsAdditive
+unfolding sum_bits
 additive-sum_bits zero k h f b additive small = additive-zero k h additive
 additive-sum_bits (suc n) k h f b additive small =
     additive (sum_bits n f b) (at_bit (bit_at b n) (f n)) (sum_bits-below n k f b (λ i below. small i (omega arith)))

@@ -1,2 +1,3 @@
 pub mod Sum
 pub mod Bits
+pub mod Product
