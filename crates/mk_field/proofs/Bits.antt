@@ -42,8 +42,8 @@ unfolding sum_bits
 sum_bits-sum zero f a b = refl
 sum_bits-sum (suc n) f a b =
     ap (bit_xor (sum_bits n f (bit_xor a b))) (ap (λ (x : ℕ). at_bit x (f n)) (bit_at_xor a b n) ∙ at_bit-sum (bit_at a n) (bit_at b n) (f n) (bit_at-lt a n) (bit_at-lt b n))
-      ∙ ap (λ (x : ℕ). bit_xor x (bit_xor (at_bit (bit_at a n) (f n)) (at_bit (bit_at b n) (f n)))) (sum_bits-sum n f a b)
-      ∙ sum-interchange (sum_bits n f a) (sum_bits n f b) (at_bit (bit_at a n) (f n)) (at_bit (bit_at b n) (f n))
+    ∙ ap (λ (x : ℕ). bit_xor x (bit_xor (at_bit (bit_at a n) (f n)) (at_bit (bit_at b n) (f n)))) (sum_bits-sum n f a b)
+    ∙ sum-interchange (sum_bits n f a) (sum_bits n f b) (at_bit (bit_at a n) (f n)) (at_bit (bit_at b n) (f n))
 
 -- the sum of two functions over the bits of a number
 pub sum_bits-functions : (n : ℕ) (f g : ℕ → ℕ) (b : ℕ) → sum_bits n (λ i. bit_xor (f i) (g i)) b ≡ bit_xor (sum_bits n f b) (sum_bits n g b)
@@ -51,8 +51,8 @@ unfolding sum_bits
 sum_bits-functions zero f g b = refl
 sum_bits-functions (suc n) f g b =
     ap (bit_xor (sum_bits n (λ i. bit_xor (f i) (g i)) b)) (at_bit-values (bit_at b n) (f n) (g n) (bit_at-lt b n))
-      ∙ ap (λ (x : ℕ). bit_xor x (bit_xor (at_bit (bit_at b n) (f n)) (at_bit (bit_at b n) (g n)))) (sum_bits-functions n f g b)
-      ∙ sum-interchange (sum_bits n f b) (sum_bits n g b) (at_bit (bit_at b n) (f n)) (at_bit (bit_at b n) (g n))
+    ∙ ap (λ (x : ℕ). bit_xor x (bit_xor (at_bit (bit_at b n) (f n)) (at_bit (bit_at b n) (g n)))) (sum_bits-functions n f g b)
+    ∙ sum-interchange (sum_bits n f b) (sum_bits n g b) (at_bit (bit_at b n) (f n)) (at_bit (bit_at b n) (g n))
 
 -- functions that agree at the places have one sum
 pub sum_bits-same : (n : ℕ) (f g : ℕ → ℕ) (b : ℕ) → ((i : ℕ) → i < n → f i ≡ g i) → sum_bits n f b ≡ sum_bits n g b
@@ -60,7 +60,7 @@ unfolding sum_bits
 sum_bits-same zero f g b same = refl
 sum_bits-same (suc n) f g b same =
     ap (bit_xor (sum_bits n f b)) (ap (at_bit (bit_at b n)) (same n (omega arith)))
-      ∙ ap (λ (x : ℕ). bit_xor x (at_bit (bit_at b n) (g n))) (sum_bits-same n f g b (λ i below. same i (omega arith)))
+    ∙ ap (λ (x : ℕ). bit_xor x (at_bit (bit_at b n) (g n))) (sum_bits-same n f g b (λ i below. same i (omega arith)))
 
 -- the sum of numbers of k bits has k bits
 pub sum_bits-below : (n k : ℕ) (f : ℕ → ℕ) (b : ℕ) → ((i : ℕ) → i < n → f i < 2 ^ k) → sum_bits n f b < 2 ^ k
@@ -68,7 +68,7 @@ unfolding sum_bits
 sum_bits-below zero k f b small = pow_pos k
 sum_bits-below (suc n) k f b small =
     xor_lt k (sum_bits n f b) (at_bit (bit_at b n) (f n)) (sum_bits-below n k f b (λ i below. small i (omega arith)))
-      (at_bit-below k (bit_at b n) (f n) (bit_at-lt b n) (small n (omega arith)))
+    (at_bit-below k (bit_at b n) (f n) (bit_at-lt b n) (small n (omega arith)))
 
 -- the sum over the bits of 0
 pub sum_bits-zero : (n : ℕ) (f : ℕ → ℕ) → sum_bits n f 0 ≡ 0
@@ -76,7 +76,7 @@ unfolding sum_bits
 sum_bits-zero zero f = refl
 sum_bits-zero (suc n) f =
     ap (bit_xor (sum_bits n f 0)) (ap (λ (x : ℕ). at_bit x (f n)) (bit_at-zero n))
-      ∙ xor_zero_r (sum_bits n f 0) ∙ sum_bits-zero n f
+    ∙ xor_zero_r (sum_bits n f 0) ∙ sum_bits-zero n f
 
 -- a bit above the places does not count
 sum_bits-pow_above : (n : ℕ) (f : ℕ → ℕ) (j : ℕ) → n ≤ j → sum_bits n f (2 ^ j) ≡ 0
@@ -84,7 +84,7 @@ unfolding sum_bits
 sum_bits-pow_above zero f j above = refl
 sum_bits-pow_above (suc n) f j above =
     ap (bit_xor (sum_bits n f (2 ^ j))) (ap (λ (x : ℕ). at_bit x (f n)) (bit_at-pow_other j n (λ e. omega arith)))
-      ∙ xor_zero_r (sum_bits n f (2 ^ j)) ∙ sum_bits-pow_above n f j (omega arith)
+    ∙ xor_zero_r (sum_bits n f (2 ^ j)) ∙ sum_bits-pow_above n f j (omega arith)
 
 -- the sum over a single bit
 pub sum_bits-pow : (n : ℕ) (f : ℕ → ℕ) (j : ℕ) → j < n → sum_bits n f (2 ^ j) ≡ f j
@@ -93,11 +93,11 @@ sum_bits-pow zero f j below = absurd (omega arith)
 sum_bits-pow (suc n) f j below = elim (cases_lt j n) [
   | inl p ↦
       ap (bit_xor (sum_bits n f (2 ^ j))) (ap (λ (x : ℕ). at_bit x (f n)) (bit_at-pow_other j n (λ e. omega arith)))
-        ∙ xor_zero_r (sum_bits n f (2 ^ j)) ∙ sum_bits-pow n f j p
+      ∙ xor_zero_r (sum_bits n f (2 ^ j)) ∙ sum_bits-pow n f j p
   | inr p ↦
       let same : j ≡ n = omega arith in
       rw same (ap (λ (x : ℕ). bit_xor x (at_bit (bit_at (2 ^ n) n) (f n))) (sum_bits-pow_above n f n (omega arith))
-        ∙ xor_zero_l (at_bit (bit_at (2 ^ n) n) (f n)) ∙ ap (λ (x : ℕ). at_bit x (f n)) (bit_at-pow_same n))
+      ∙ xor_zero_l (at_bit (bit_at (2 ^ n) n) (f n)) ∙ ap (λ (x : ℕ). at_bit x (f n)) (bit_at-pow_same n))
 ]
 
 -- a power at a bit is their product
@@ -111,7 +111,7 @@ one_above k bit r below =
     let second : bit * 2 ^ k + 0 ≡ bit * 2 ^ k = omega arith in
     let block : bit_xor (0 * 2 ^ k + r) (bit * 2 ^ k + 0) ≡ bit_xor 0 bit * 2 ^ k + bit_xor r 0 = xor_block k 0 bit r 0 below (pow_pos k) in
     ap (λ (x : ℕ). bit_xor x (bit * 2 ^ k)) (sym first) ∙ ap (bit_xor (0 * 2 ^ k + r)) (sym second) ∙ block
-      ∙ ap (λ (x : ℕ). bit * 2 ^ k + x) (xor_zero_r r)
+    ∙ ap (λ (x : ℕ). bit * 2 ^ k + x) (xor_zero_r r)
 
 -- the lowest n bits of a number as a sum of powers of 2
 sum_bits-mod : (n a : ℕ) → sum_bits n (λ i. 2 ^ i) a ≡ a % 2 ^ n
@@ -119,10 +119,10 @@ unfolding sum_bits
 sum_bits-mod zero a = sym (mod-one a)
 sum_bits-mod (suc n) a =
     ap (λ (x : ℕ). bit_xor x (at_bit (bit_at a n) (2 ^ n))) (sum_bits-mod n a)
-      ∙ ap (bit_xor (a % 2 ^ n)) (at_bit-times (bit_at a n) (2 ^ n) (bit_at-lt a n))
-      ∙ one_above n (bit_at a n) (a % 2 ^ n) (mod_below a (2 ^ n) (pow_pos n))
-      ∙ sym (mod-pow-add a 1 n)
-      ∙ ap (λ (x : ℕ). a % 2 ^ x) (one-add n)
+    ∙ ap (bit_xor (a % 2 ^ n)) (at_bit-times (bit_at a n) (2 ^ n) (bit_at-lt a n))
+    ∙ one_above n (bit_at a n) (a % 2 ^ n) (mod_below a (2 ^ n) (pow_pos n))
+    ∙ sym (mod-pow-add a 1 n)
+    ∙ ap (λ (x : ℕ). a % 2 ^ x) (one-add n)
 
 -- a number of n bits is the sum of the powers of 2 at its set bits
 pub sum_bits-powers : (n a : ℕ) → a < 2 ^ n → sum_bits n (λ i. 2 ^ i) a ≡ a
@@ -144,16 +144,16 @@ unfolding sum_bits
 additive-sum_bits zero k h f b additive small = additive-zero k h additive
 additive-sum_bits (suc n) k h f b additive small =
     additive (sum_bits n f b) (at_bit (bit_at b n) (f n)) (sum_bits-below n k f b (λ i below. small i (omega arith)))
-        (at_bit-below k (bit_at b n) (f n) (bit_at-lt b n) (small n (omega arith)))
-      ∙ ap (bit_xor (h (sum_bits n f b))) (additive-at_bit k h additive (bit_at b n) (f n) (bit_at-lt b n))
-      ∙ ap (λ (x : ℕ). bit_xor x (at_bit (bit_at b n) (h (f n)))) (additive-sum_bits n k h f b additive (λ i below. small i (omega arith)))
+    (at_bit-below k (bit_at b n) (f n) (bit_at-lt b n) (small n (omega arith)))
+    ∙ ap (bit_xor (h (sum_bits n f b))) (additive-at_bit k h additive (bit_at b n) (f n) (bit_at-lt b n))
+    ∙ ap (λ (x : ℕ). bit_xor x (at_bit (bit_at b n) (h (f n)))) (additive-sum_bits n k h f b additive (λ i below. small i (omega arith)))
 
 -- additive functions that agree at the powers of 2 agree at all numbers of k bits
 pub additive-same : (k : ℕ) (h g : ℕ → ℕ) → IsAdditive k h → IsAdditive k g → ((i : ℕ) → i < k → h (2 ^ i) ≡ g (2 ^ i))
     → (a : ℕ) → a < 2 ^ k → h a ≡ g a
 additive-same k h g additive_h additive_g same a below =
     ap h (sym (sum_bits-powers k a below))
-      ∙ additive-sum_bits k k h (λ i. 2 ^ i) a additive_h (λ i less. pow_below i k less)
-      ∙ sum_bits-same k (λ i. h (2 ^ i)) (λ i. g (2 ^ i)) a same
-      ∙ sym (additive-sum_bits k k g (λ i. 2 ^ i) a additive_g (λ i less. pow_below i k less))
-      ∙ ap g (sum_bits-powers k a below)
+    ∙ additive-sum_bits k k h (λ i. 2 ^ i) a additive_h (λ i less. pow_below i k less)
+    ∙ sum_bits-same k (λ i. h (2 ^ i)) (λ i. g (2 ^ i)) a same
+    ∙ sym (additive-sum_bits k k g (λ i. 2 ^ i) a additive_g (λ i less. pow_below i k less))
+    ∙ ap g (sum_bits-powers k a below)

@@ -1,3 +1,5 @@
 pub mod Sum
 pub mod Bits
-pub mod Product
+pub mod Bytes
+pub mod Exponents
+pub mod Tables

@@ -5,6 +5,7 @@
 mod field;
 mod laws;
 mod map;
+mod powers;
 
 pub use field::{Field, FieldId, Gf2, Gf256};
 pub use laws::sum_laws;
