@@ -1,12 +1,12 @@
 -- Sums over the set bits of a number, and functions that are additive on the numbers of so many bits.
-use Rattle.std.proofs.Common.{◌≡◌, ℕ, zero, suc, ◌+◌, ◌*◌, ◌/◌, ◌%◌, ◌^◌, ◌≤◌, ◌<◌, ◌⊎◌, if◌then◌else◌, nat_eq, bit_xor, refl, sym, ◌∙◌, ap, subst, inl, inr, arith}
+use Rattle.std.proofs.Common.{◌≡◌, ℕ, zero, suc, ◌+◌, ◌*◌, ◌/◌, ◌%◌, ◌^◌, ◌≤◌, ◌<◌, ◌⊎◌, if◌then◌else◌, nat_eq, bit_and, bit_xor, refl, sym, ◌∙◌, ap, subst, inl, inr, arith}
 use Rattle.std.specs.Int.{bit_at}
 use Rattle.std.specs.Int.Bits.{xor_self, xor_zero_l, xor_zero_r}
 use Rattle.std.proofs.lemmas.Nat.{xor_lt, xor_block, mod-pow-add, pow_pos, pow_below, mod_below}
-use Rattle.std.proofs.lemmas.Nat.Bits.{bit_at_xor, bit_at-lt, bit_at-pow_same, bit_at-pow_other, bit_at-zero, bit_at_above}
+use Rattle.std.proofs.lemmas.Nat.Bits.{bit_at_xor, shr_and_one, bit_at-lt, bit_at-pow_same, bit_at-pow_other, bit_at-zero, bit_at_above}
 use Rattle.std.proofs.lemmas.Bool.{cases_lt}
 use Rattle.std.proofs.Math.Nat.{mod-one, mod-eq_of_lt}
-use Rattle.std.proofs.Math.Numerals.{one-add}
+use Rattle.std.proofs.Math.Numerals.{one-add, add-one}
 use Rattle.mk_field.specs.Field.{sum_bits}
 use Rattle.mk_field.specs.Laws.{IsAdditive}
 use Rattle.mk_field.proofs.Sum.{sum-interchange}
@@ -77,6 +77,21 @@ sum_bits-zero zero f = refl
 sum_bits-zero (suc n) f =
     ap (bit_xor (sum_bits n f 0)) (ap (λ (x : ℕ). at_bit x (f n)) (bit_at-zero n))
     ∙ xor_zero_r (sum_bits n f 0) ∙ sum_bits-zero n f
+
+-- one more bit, which is set
+pub sum_bits-set : (n : ℕ) (f : ℕ → ℕ) (b : ℕ) → bit_and (b / 2 ^ n) 1 ≡ 1 → sum_bits (n + 1) f b ≡ bit_xor (sum_bits n f b) (f n)
+unfolding sum_bits
+sum_bits-set n f b set =
+    let bit : bit_at b n ≡ 1 = sym (shr_and_one b n) ∙ set in
+    rw add-one (ap (bit_xor (sum_bits n f b)) (ap (λ (x : ℕ). at_bit x (f n)) bit))
+
+-- one more bit, which is not set
+pub sum_bits-clear : (n : ℕ) (f : ℕ → ℕ) (b : ℕ) → (bit_and (b / 2 ^ n) 1 ≡ 1 → ⊥) → sum_bits (n + 1) f b ≡ sum_bits n f b
+unfolding sum_bits
+sum_bits-clear n f b clear = elim (bit_cases (bit_at b n) (bit_at-lt b n)) [
+  | inl bit ↦ rw add-one (ap (bit_xor (sum_bits n f b)) (ap (λ (x : ℕ). at_bit x (f n)) bit) ∙ xor_zero_r (sum_bits n f b))
+  | inr bit ↦ absurd (clear (shr_and_one b n ∙ bit))
+]
 
 -- a bit above the places does not count
 sum_bits-pow_above : (n : ℕ) (f : ℕ → ℕ) (j : ℕ) → n ≤ j → sum_bits n f (2 ^ j) ≡ 0
