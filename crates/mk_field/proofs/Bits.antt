@@ -16,7 +16,7 @@ abbrev pub at_bit : ℕ → ℕ → ℕ
 at_bit bit value = if nat_eq bit 1 then value else 0
 
 -- a bit is 0 or 1
-bit_cases : (bit : ℕ) → bit < 2 → (bit ≡ 0) ⊎ (bit ≡ 1)
+pub bit_cases : (bit : ℕ) → bit < 2 → (bit ≡ 0) ⊎ (bit ≡ 1)
 bit_cases zero below = inl refl
 bit_cases (suc zero) below = inr refl
 bit_cases (suc (suc n)) below = absurd (omega arith)

@@ -3,3 +3,4 @@ pub mod Bits
 pub mod Bytes
 pub mod Exponents
 pub mod Tables
+pub mod Product

@@ -8,5 +8,5 @@ mod map;
 mod powers;
 
 pub use field::{Field, FieldId, Gf2, Gf256};
-pub use laws::sum_laws;
+pub use laws::{map_laws, product_laws, sum_laws};
 pub use map::AddMap;
