@@ -1,15 +1,15 @@
 -- Laws of the product of bytes: it is additive in each argument and commutes with doubling, and so it
 -- is settled by its values at the powers of 2.
-use Rattle.std.proofs.Common.{◌≡◌, ℕ, zero, suc, ◌+◌, ◌-◌, ◌*◌, ◌/◌, ◌%◌, ◌^◌, ◌≤◌, ◌<◌, ◌⊎◌, if◌then◌else◌, true, false, nat_lt, nat_eq, bit_and, bit_xor, refl, sym, ◌∙◌, ap, subst, inl, inr, arith, zero-add}
+use Rattle.std.proofs.Common.{◌≡◌, ℕ, zero, suc, ◌+◌, ◌-◌, ◌*◌, ◌^◌, ◌<◌, bit_xor, refl, sym, ◌∙◌, ap, subst, inl, inr, arith, zero-add}
 use Rattle.std.specs.Int.{bit_at}
-use Rattle.std.specs.Int.Bits.{xor_self, xor_zero_l, xor_zero_r}
+use Rattle.std.specs.Int.Bits.{xor_self, xor_zero_r}
 use Rattle.std.proofs.lemmas.Nat.{xor_lt, xor_block}
 use Rattle.std.proofs.lemmas.Nat.Bits.{bit_at_xor, bit_at-lt}
 use Rattle.std.proofs.lemmas.Bool.{cases_lt, lt-ltb, le-ltb}
-use Rattle.mk_field.specs.Field.{sum_bits, double, doubled, byte_product}
+use Rattle.mk_field.specs.Field.{double, doubled, byte_product}
 use Rattle.mk_field.specs.Laws.{IsAdditive}
-use Rattle.mk_field.proofs.Sum.{sum-interchange, sum-cancel}
-use Rattle.mk_field.proofs.Bits.{at_bit, at_bit-sum, at_bit-below, sum_bits-sum, sum_bits-functions, sum_bits-same, sum_bits-below, sum_bits-zero, sum_bits-pow, sum_bits-powers, additive-sum_bits, additive-same}
+use Rattle.mk_field.proofs.Sum.{sum-interchange}
+use Rattle.mk_field.proofs.Bits.{at_bit, at_bit-sum, sum_bits-sum, sum_bits-functions, sum_bits-same, sum_bits-below, sum_bits-zero, sum_bits-pow, sum_bits-powers, additive-sum_bits, additive-same}
 
 -- twice a sum
 twice-sum : (a b : ℕ) → 2 * bit_xor a b ≡ bit_xor (2 * a) (2 * b)

@@ -1,7 +1,7 @@
 -- The powers of 03, and tables of them.
-use Rattle.std.proofs.Common.{◌≡◌, ℕ, zero, suc, ◌+◌, ◌<◌, ◌^◌, true, Bool, ◌&&◌, nat_eq, nat_lt, List, [], ◌∷◌, length, slice_index, refl, sym, ◌∙◌, ap, arith}
+use Rattle.std.proofs.Common.{◌≡◌, ℕ, zero, suc, ◌+◌, ◌<◌, ◌^◌, true, Bool, ◌&&◌, nat_eq, nat_lt, List, [], ◌∷◌, length, slice_index, sym, ◌∙◌, ap, arith}
 use Rattle.std.proofs.lemmas.Bool.{and_parts, eqb-true, ltb-true}
-use Rattle.mk_field.specs.Field.{sum_bits, byte_product}
+use Rattle.mk_field.specs.Field.{byte_product}
 use Rattle.mk_field.specs.Powers.{power}
 use Rattle.mk_field.proofs.Bytes.{byte_product-below, byte_product-assoc, byte_product-one_right}
 

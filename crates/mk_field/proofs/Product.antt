@@ -1,15 +1,14 @@
 -- Laws of the product and the square of elements, in both fields, and of additive maps.
-use Rattle.std.proofs.Common.{◌≡◌, ◌≢◌, ℕ, zero, suc, ◌+◌, ◌%◌, ◌^◌, ◌<◌, ◌⊎◌, min, All, bit_and, bit_xor, List, slice_index, refl, sym, ◌∙◌, ap, inl, inr, arith}
+use Rattle.std.proofs.Common.{◌≡◌, ℕ, zero, suc, ◌+◌, ◌%◌, ◌^◌, ◌<◌, min, bit_and, bit_xor, slice_index, refl, sym, ◌∙◌, ap, inl, inr, arith}
 use Rattle.std.specs.Int.{bit_at}
-use Rattle.std.specs.Int.Bits.{xor_self}
 use Rattle.std.proofs.lemmas.Nat.{and_comm, and_assoc, and_le_l}
 use Rattle.std.proofs.lemmas.Nat.Bits.{bit_at_and, bit_at_xor, bit_at-lt, same_from_bits}
 use Rattle.mk_field.specs.declared.field.FieldId.{FieldId}
 use Rattle.mk_field.specs.declared.field.FieldId.TheVariants.{Gf2, Gf256}
 use Rattle.mk_field.specs.declared.map.AddMap.{AddMap}
-use Rattle.mk_field.specs.Field.{bits, size, product, square, image}
+use Rattle.mk_field.specs.Field.{size, product, square, image}
 use Rattle.mk_field.specs.Laws.{IsPermutation, ProductLaws, MapLaws}
-use Rattle.mk_field.proofs.Sum.{sum-cancel, sum-inject, sum-in_field, sum-assoc, sum-left_comm}
+use Rattle.mk_field.proofs.Sum.{sum-cancel, sum-inject, sum-in_field, sum-assoc}
 use Rattle.mk_field.proofs.Bits.{bit_cases, sum_bits-sum, sum_bits-zero, sum_bits-below}
 use Rattle.mk_field.proofs.Bytes.{byte_product-sum_left, byte_product-sum_right, byte_product-below, byte_product-one_left, byte_product-zero_left, byte_product-zero_right, byte_product-comm, byte_product-assoc}
 
@@ -29,7 +28,7 @@ bit-and_xor a b c first second third = elim (bit_cases a first) [
 -- and distributes over exclusive or
 and_xor : (a b c : ℕ) → bit_and a (bit_xor b c) ≡ bit_xor (bit_and a b) (bit_and a c)
 and_xor a b c = same_from_bits (bit_and a (bit_xor b c)) (bit_xor (bit_and a b) (bit_and a c)) (λ i.
-  bit_at_and a (bit_xor b c) i ∙ ap (min (bit_at a i)) (bit_at_xor b c i)
+    bit_at_and a (bit_xor b c) i ∙ ap (min (bit_at a i)) (bit_at_xor b c i)
     ∙ bit-and_xor (bit_at a i) (bit_at b i) (bit_at c i) (bit_at-lt a i) (bit_at-lt b i) (bit_at-lt c i)
     ∙ ap (λ (x : ℕ). (x + min (bit_at a i) (bit_at c i)) % 2) (sym (bit_at_and a b i))
     ∙ ap (λ (x : ℕ). (bit_at (bit_and a b) i + x) % 2) (sym (bit_at_and a c i))
@@ -61,7 +60,7 @@ pub product-sum_left : (field : FieldId) (a b c : ℕ) → a < size field → b 
     → product field (bit_xor a b) c ≡ bit_xor (product field a c) (product field b c)
 product-sum_left Gf2 a b c left right =
     and_comm (bit_xor a b) c ∙ and_xor c a b ∙ ap (λ (x : ℕ). bit_xor x (bit_and c b)) (and_comm c a)
-      ∙ ap (bit_xor (bit_and a c)) (and_comm c b)
+    ∙ ap (bit_xor (bit_and a c)) (and_comm c b)
 product-sum_left Gf256 a b c left right = byte_product-sum_left a b c left right
 
 -- 0 times an element
@@ -95,13 +94,13 @@ pub square-sum : (field : FieldId) (a b : ℕ) → a < size field → b < size f
     → square field (bit_xor a b) ≡ bit_xor (square field a) (square field b)
 square-sum field a b left right =
     let cross : bit_xor (product field b a) (bit_xor (product field a b) (product field b b)) ≡ product field b b =
-      ap (λ (x : ℕ). bit_xor (product field b a) (bit_xor x (product field b b))) (product-comm field a b left right)
-        ∙ sum-cancel (product field b a) (product field b b) in
+    ap (λ (x : ℕ). bit_xor (product field b a) (bit_xor x (product field b b))) (product-comm field a b left right)
+    ∙ sum-cancel (product field b a) (product field b b) in
     product-sum_right field (bit_xor a b) a b
-      ∙ ap (λ (x : ℕ). bit_xor x (product field (bit_xor a b) b)) (product-sum_left field a b a left right)
-      ∙ ap (bit_xor (bit_xor (product field a a) (product field b a))) (product-sum_left field a b b left right)
-      ∙ sum-assoc (product field a a) (product field b a) (bit_xor (product field a b) (product field b b))
-      ∙ ap (bit_xor (product field a a)) cross
+    ∙ ap (λ (x : ℕ). bit_xor x (product field (bit_xor a b) b)) (product-sum_left field a b a left right)
+    ∙ ap (bit_xor (bit_xor (product field a a) (product field b a))) (product-sum_left field a b b left right)
+    ∙ sum-assoc (product field a a) (product field b a) (bit_xor (product field a b) (product field b b))
+    ∙ ap (bit_xor (product field a a)) cross
 
 -- the square of an element is an element
 pub square-in_field : (field : FieldId) (a : ℕ) → a < size field → square field a < size field
@@ -133,7 +132,7 @@ product_laws-hold field = record {
   commutative = λ a b left right. product-comm field a b left right;
   associative = λ a b c first second third. product-assoc field a b c first second third;
   closed = λ a b left right. product-in_field field a b left;
-  distributes = λ a b c first second third. product-sum_right field a b c;
+  distributes = λ a b c. product-sum_right field a b c;
   zero_left = λ a. product-zero_left field a;
   one_left = λ a below. product-one_left field a below;
   square_closed = λ a below. square-in_field field a below;

@@ -1,5 +1,5 @@
 -- The two tables are held against the powers of 03 by computing each entry once.
-use Rattle.std.proofs.Common.{◌≡◌, ℕ, zero, suc, ◌+◌, ◌-◌, ◌<◌, true, List, drop, slice_index, refl, sym, ◌∙◌, ap, arith}
+use Rattle.std.proofs.Common.{◌≡◌, ℕ, zero, suc, ◌+◌, ◌<◌, true, drop, slice_index, refl, sym, ◌∙◌, ap, arith}
 use Rattle.mk_field.specs.Field.{sum_bits}
 use Rattle.mk_field.specs.Powers.{power}
 use Rattle.mk_field.specs.declared.powers.TheConstants.{POWERS, EXPONENTS}
@@ -34,4 +34,4 @@ exponents-entry (suc a) positive below =
     let small : slice_index EXPONENTS (suc a) < 255 = exponents-below (suc a) positive below in
     let e : 1 + a ≡ suc a = omega arith in
     sym (powers-entry (slice_index EXPONENTS (suc a)) (omega arith))
-      ∙ (are_exponents-at POWERS 1 (drop 1 EXPONENTS) a exponents-test (omega arith)).1 ∙ e
+    ∙ (are_exponents-at POWERS 1 (drop 1 EXPONENTS) a exponents-test (omega arith)).1 ∙ e

@@ -33,8 +33,7 @@ pub record ProductLaws (field : FieldId) : Type 0 where
   pub associative : (a b c : ℕ) → a < size field → b < size field → c < size field
       → product field (product field a b) c ≡ product field a (product field b c)
   pub closed : (a b : ℕ) → a < size field → b < size field → product field a b < size field
-  pub distributes : (a b c : ℕ) → a < size field → b < size field → c < size field
-      → product field a (bit_xor b c) ≡ bit_xor (product field a b) (product field a c)
+  pub distributes : (a b c : ℕ) → product field a (bit_xor b c) ≡ bit_xor (product field a b) (product field a c)
   pub zero_left : (a : ℕ) → product field 0 a ≡ 0
   pub one_left : (a : ℕ) → a < size field → product field 1 a ≡ a
   pub square_closed : (a : ℕ) → a < size field → square field a < size field

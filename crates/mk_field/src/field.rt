@@ -66,7 +66,8 @@ impl FieldId {
     }
 }
 
-/// A field whose elements are the numbers below its size, as bytes.
+/// A field whose elements are the numbers below its size, as bytes. Its laws are the contracts of
+/// `sum_laws` and `product_laws`.
 pub trait Field {
     ghost use Rattle.mk_field.specs.declared.field.FieldId.{FieldId};
 
@@ -155,6 +156,6 @@ impl Field for Gf256 {
     }
 
     fn sq(a: u8) -> u8 {
-        Self::mul(a, a)
+        product_by_powers(a, a)
     }
 }

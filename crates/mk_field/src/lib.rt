@@ -6,6 +6,8 @@ mod field;
 mod laws;
 mod map;
 mod powers;
+#[cfg(test)]
+mod product_tests;
 
 pub use field::{Field, FieldId, Gf2, Gf256};
 pub use laws::{map_laws, product_laws, sum_laws};

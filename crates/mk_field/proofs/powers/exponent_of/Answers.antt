@@ -1,4 +1,4 @@
-use Rattle.std.proofs.Common.{◌≡◌, ◌<◌, ◌∙◌, ap, arith, slice_index, subst}
+use Rattle.std.proofs.Common.{◌≡◌, ◌∙◌, ap, arith, slice_index}
 use Rattle.mk_field.specs.Powers.{power}
 use Rattle.mk_field.specs.declared.powers.TheConstants.{EXPONENTS}
 use Rattle.mk_field.proofs.Tables.{exponents-below, exponents-entry}

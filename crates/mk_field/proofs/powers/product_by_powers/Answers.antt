@@ -1,5 +1,5 @@
 -- A byte that is not 0 is a power of 03, and the exponents of a product add up.
-use Rattle.std.proofs.Common.{◌≡◌, ◌∙◌, ap, sym, arith}
+use Rattle.std.proofs.Common.{◌∙◌, ap, sym}
 use Rattle.mk_field.specs.Field.{byte_product}
 use Rattle.mk_field.specs.Powers.{power}
 use Rattle.mk_field.proofs.Bytes.{byte_product-zero_left, byte_product-zero_right}
@@ -16,4 +16,4 @@ returns-then-a-eq0 c = elim c.then-a-eq0.branch [
 pub returns : goal.returns
 returns c =
     c.power_at.ensures ∙ power-sum c.exponent_of.result c.exponent_of-2.result
-      ∙ ap (λ x. byte_product x (power c.exponent_of-2.result)) c.exponent_of.ensures.value ∙ ap (byte_product c.args.a) c.exponent_of-2.ensures.value
+    ∙ ap (λ x. byte_product x (power c.exponent_of-2.result)) c.exponent_of.ensures.value ∙ ap (byte_product c.args.a) c.exponent_of-2.ensures.value

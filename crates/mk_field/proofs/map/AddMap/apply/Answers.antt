@@ -14,7 +14,7 @@ loop-i-preserved c =
     elim c.if-a-i-eq1.branch [
       | then-a-i-eq1 w ↦
           w.sum-is ∙ ap (λ (x : ℕ). bit_xor x (images c.loop-i.i)) c.loop-i.invariant
-            ∙ sym (sum_bits-set c.loop-i.i images c.args.a w.if-a-i-eq1.true)
+          ∙ sym (sum_bits-set c.loop-i.i images c.args.a w.if-a-i-eq1.true)
       | else-a-i-eq1 w ↦
           w.sum-is ∙ c.loop-i.invariant ∙ sym (sum_bits-clear c.loop-i.i images c.args.a w.if-a-i-eq1.false)
     ]
