@@ -1,1 +1,6 @@
 pub mod Sum
+pub mod Bits
+pub mod Bytes
+pub mod Exponents
+pub mod Tables
+pub mod Product

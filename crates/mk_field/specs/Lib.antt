@@ -1,3 +1,4 @@
 pub mod Field
 pub mod Sharing
 pub mod Laws
+pub mod Powers

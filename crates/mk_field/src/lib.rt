@@ -5,7 +5,10 @@
 mod field;
 mod laws;
 mod map;
+mod powers;
+#[cfg(test)]
+mod product_tests;
 
 pub use field::{Field, FieldId, Gf2, Gf256};
-pub use laws::sum_laws;
+pub use laws::{map_laws, product_laws, sum_laws};
 pub use map::AddMap;
