@@ -13,3 +13,4 @@ pub mod SumMeaning
 pub mod Commands
 pub mod Compiled
 pub mod Ends
+pub mod SumCases
