@@ -1,1 +1,2 @@
 pub mod AddTemplate
+pub mod Places
