@@ -1,3 +1,5 @@
 pub mod AddTemplate
 pub mod Places
 pub mod Sums
+pub mod Rows
+pub mod Claims
