@@ -4,23 +4,18 @@ use Rattle.mk_code.specs.Listing.{Listing}
 use Rattle.mk_rules.specs.Claimed.{Claimed}
 use Rattle.mk_rules.specs.Gadget.{Gadget}
 use Rattle.mk_rules.specs.Accepts.{Accepts}
-use Rattle.mk_rules.specs.Tiles.{Tiles, laid, input_banks, first_place}
+use Rattle.mk_rules.specs.Tiles.{Tiles}
 use Rattle.mk_rules.specs.Wired.{Wired}
-use Rattle.mk_rules.specs.Places.{FirstUnwired, FirstMismatch, FirstWrongOutput}
+use Rattle.mk_rules.specs.Places.{FirstUnwired, FirstOffTile, FirstWrongOutput}
 use Rattle.mk_check.specs.declared.refusal.CheckRefusal.{CheckRefusal}
 use Rattle.mk_check.specs.declared.refusal.CheckRefusal.TheVariants.{Operand, Tile, Output, Doubled, Memory}
-
--- the first k at which the code's instructions and the templates of the blocks differ
-abbrev pub FirstOffTile : Listing → Gadget → Gadget → Claimed → ℕ → Type 0
-FirstOffTile code product refresh cert k =
-    FirstMismatch code.instrs (laid code product refresh (input_banks code) (first_place code) cert.blocks) k
 
 -- the answer for a code and certificate: acceptance, or the first part that fails with its first place
 abbrev pub IsVerdict : Listing → Claimed → Result (Unit {0}) CheckRefusal → Type 0
 IsVerdict code cert (Ok done) = (product refresh : Gadget) → Accepts code product refresh cert
 IsVerdict code cert (Err (Operand k)) = FirstUnwired code cert.blocks k
 IsVerdict code cert (Err (Tile k)) =
-    Wired code cert.blocks × ((product refresh : Gadget) → FirstOffTile code product refresh cert k)
+    Wired code cert.blocks × ((product refresh : Gadget) → FirstOffTile code product refresh cert.blocks k)
 IsVerdict code cert (Err (Output k)) =
     Wired code cert.blocks
     × ((product refresh : Gadget) → Tiles code product refresh cert.blocks)

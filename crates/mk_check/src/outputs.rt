@@ -1,11 +1,11 @@
 //! Whether a code's outputs are the claimed values.
 
-ghost use Rattle.std.specs.Prelude.{◌≡◌, ◌+◌, ◌<◌, ◌≤◌, ◌^◌, ◌↔◌, ℕ, IsTrue, MatchOption, length};
+ghost use Rattle.std.specs.Prelude.{◌≡◌, ◌+◌, ◌*◌, ◌<◌, ◌^◌, ◌↔◌, ℕ, IsTrue, MatchOption, length};
 ghost use Rattle.std.specs.List.{range_with_len};
 ghost use Rattle.mk_rules.specs.Gadget.{Gadget};
 ghost use Rattle.mk_rules.specs.Wired.{Wired};
 ghost use Rattle.mk_rules.specs.Accepts.{Outputs};
-ghost use Rattle.mk_rules.specs.Places.{IsClaimed, FirstWrongOutput};
+ghost use Rattle.mk_rules.specs.Places.{output_places, IsClaimed, FirstWrongOutput};
 ghost use Rattle.mk_rules.specs.Sums.{AreSums, sums_of};
 
 use crate::tiles::first_share;
@@ -25,6 +25,18 @@ fn is_bank(places: &[u32], first: u32) -> bool
     true
 }
 
+/// The places of the shares of output `k`.
+fn output(code: &Code, k: usize) -> &[u32]
+    requires { k * (code.now.order + 1) < length code.now.outs }
+    ensures places { result.now ≡ output_places code.now k }
+    ensures count { length result.now ≡ code.now.order + 1 }
+{
+    let _fits = code.field();
+    let shares = usize::from(code.order()) + 1;
+    let start = k * shares;
+    &code.outs().as_slice()[start..start + shares]
+}
+
 /// Whether there is a claim `k`, of a shared value that is there, and an output `k`, which is its bank.
 fn is_claimed(code: &Code, blocks: &[Op], claims: &[Operand], k: usize) -> bool
     requires sums { AreSums blocks.now }
@@ -36,12 +48,10 @@ fn is_claimed(code: &Code, blocks: &[Op], claims: &[Operand], k: usize) -> bool
 {
     let _fits = code.field();
     let shares = usize::from(code.order()) + 1;
-    let outs = code.outs().as_slice();
-    let start = k * shares;
     match claims.get(k) {
-        Some(value) if start < outs.len() => {
+        Some(value) if k * shares < code.outs().len() => {
             is_shared_there(code, blocks, *value)
-                && is_bank(&outs[start..start + shares], first_share(code, *value))
+                && is_bank(output(code, k), first_share(code, *value))
         }
         _ => false,
     }

@@ -1,6 +1,6 @@
 //! Whether a code's instructions are those of sums.
 
-ghost use Rattle.std.specs.Prelude.{◌≡◌, ◌<◌, ◌≤◌, ◌^◌, ℕ, MatchOption, slice_get};
+ghost use Rattle.std.specs.Prelude.{◌≡◌, ◌<◌, ◌≤◌, ◌^◌, ◌↔◌, IsTrue, MatchOption, slice_get};
 ghost use Rattle.mk_rules.specs.Wired.{Wired};
 ghost use Rattle.mk_rules.specs.Places.{FirstMismatch};
 ghost use Rattle.mk_rules.specs.Sums.{AreSums, first_share as first_share_by_number, sums_of};
@@ -40,6 +40,13 @@ fn wanted(code: &Code, blocks: &[Op], place: usize) -> Option<Instr>
     }
 }
 
+/// Whether the two are the same instruction.
+fn are_same(left: Instr, right: Instr) -> bool
+    ensures { IsTrue result ↔ (left ≡ right) }
+{
+    left == right
+}
+
 /// The first place at which the code's instructions and those of the blocks differ, or the length of
 /// the shorter of the two, if they aren't equal.
 pub(crate) fn first_mismatch(code: &Code, blocks: &[Op]) -> Option<u32>
@@ -51,7 +58,7 @@ pub(crate) fn first_mismatch(code: &Code, blocks: &[Op]) -> Option<u32>
     let instrs = code.instrs().as_slice();
     for (place, instr) in instrs.iter().enumerate() {
         match wanted(code, blocks, place) {
-            Some(other) if other == *instr => {}
+            Some(other) if are_same(*instr, other) => {}
             _ => return Some(place as u32),
         }
     }

@@ -43,7 +43,7 @@ pub record AreSumBanks (code : Listing) (before : List Op) (banks : List (List �
   pub behind : base ≡ first_share code (Block (length before))
 
 -- an element that is there is within
-slice_get-within : {X : Type 0} (xs : List X) (k : ℕ) (P : X → Type 0) → IsSomeAnd (slice_get xs k) P → k < length xs
+pub slice_get-within : {X : Type 0} (xs : List X) (k : ℕ) (P : X → Type 0) → IsSomeAnd (slice_get xs k) P → k < length xs
 slice_get-within [] k P there = absurd there
 slice_get-within (x ∷ xs) zero P there = omega arith
 slice_get-within (x ∷ xs) (suc k) P there = omega (arith, slice_get-within xs k P there)

@@ -4,7 +4,7 @@ use Rattle.mk_code.specs.Listing.{Listing}
 use Rattle.mk_ssa.specs.declared.Op.{Op}
 use Rattle.mk_ssa.specs.declared.Operand.{Operand}
 use Rattle.mk_rules.specs.Gadget.{Gadget}
-use Rattle.mk_rules.specs.Tiles.{banks_of, value_number}
+use Rattle.mk_rules.specs.Tiles.{banks_of, value_number, laid, input_banks, first_place}
 use Rattle.mk_rules.specs.Wired.{IsSharedThere, IsWired, Wired}
 
 -- the blocks before block k are wired, and it isn't
@@ -16,6 +16,12 @@ pub record FirstUnwired (code : Listing) (blocks : List Op) (k : ℕ) : Type 0 w
 pub record FirstMismatch {X : Type 0} (xs ys : List X) (k : ℕ) : Type 0 where
   pub before : take k xs ≡ take k ys
   pub differ : slice_get xs k ≢ slice_get ys k
+
+-- the code's instructions and the templates of the blocks, one after the other, are equal before
+-- instruction k and not there
+abbrev pub FirstOffTile : Listing → Gadget → Gadget → List Op → ℕ → Type 0
+FirstOffTile code product refresh blocks k =
+    FirstMismatch code.instrs (laid code product refresh (input_banks code) (first_place code) blocks) k
 
 -- the places of the shares of output k
 abbrev pub output_places : Listing → ℕ → List ℕ
