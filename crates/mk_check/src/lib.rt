@@ -22,11 +22,10 @@ mod tests;
 mod tiles;
 mod wired;
 
-pub use refusal::CheckRefusal;
-
 use mk_code::Code;
 use mk_rules::Cert;
 use outputs::first_wrong_output;
+pub use refusal::CheckRefusal;
 use std::alloc::Global;
 use tiles::first_mismatch;
 use wired::first_unwired;

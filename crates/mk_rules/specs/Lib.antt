@@ -7,3 +7,4 @@ pub mod Reaches
 pub mod Accepts
 pub mod Places
 pub mod Sums
+pub mod Examples
