@@ -5,3 +5,6 @@ pub mod Tiles
 pub mod Wired
 pub mod Reaches
 pub mod Accepts
+pub mod Places
+pub mod Sums
+pub mod Examples

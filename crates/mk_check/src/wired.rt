@@ -1,0 +1,88 @@
+//! Whether the operands of blocks are there, and of their kind.
+
+ghost use Rattle.std.specs.Prelude.{◌≡◌, ◌<◌, ◌^◌, ◌↔◌, ℕ, IsTrue, MatchOption, length};
+ghost use Rattle.mk_ssa.specs.Kinds.{is_public as public_by_kind};
+ghost use Rattle.mk_rules.specs.Wired.{IsSharedThere, IsPublicThere, IsWired, Wired};
+ghost use Rattle.mk_rules.specs.Places.{FirstUnwired};
+
+use mk_code::Code;
+use mk_ssa::{Op, Operand};
+
+/// Whether the value of the operator is public.
+fn is_public(op: &Op) -> bool
+    ensures { result ≡ public_by_kind op.now }
+{
+    matches!(
+        op,
+        Op::Const { .. }
+            | Op::PubAdd { .. }
+            | Op::PubMul { .. }
+            | Op::PubSq { .. }
+            | Op::PubMap { .. }
+    )
+}
+
+/// Whether the operand is a secret that is there or a shared block among those before.
+pub(crate) fn is_shared_there(code: &Code, before: &[Op], value: Operand) -> bool
+    ensures { IsTrue result ↔ IsSharedThere code.now before.now value }
+{
+    match value {
+        Operand::Secret(k) => k < code.secrets(),
+        Operand::Public(_) => false,
+        Operand::Block(k) => match before.get(k as usize) {
+            Some(op) => !is_public(op),
+            None => false,
+        },
+    }
+}
+
+/// Whether the operand is a public input that is there or a public block among those before.
+fn is_public_there(code: &Code, before: &[Op], value: Operand) -> bool
+    ensures { IsTrue result ↔ IsPublicThere code.now before.now value }
+{
+    match value {
+        Operand::Secret(_) => false,
+        Operand::Public(k) => k < code.publics(),
+        Operand::Block(k) => match before.get(k as usize) {
+            Some(op) => is_public(op),
+            None => false,
+        },
+    }
+}
+
+/// Whether each operand of the operator is there and of its kind among the blocks before, its map is
+/// one of the code's and its constant is an element of the field.
+fn is_wired(code: &Code, before: &[Op], op: &Op) -> bool
+    ensures { IsTrue result ↔ IsWired code.now before.now op.now }
+{
+    let is_shared = |value| is_shared_there(code, before, value);
+    let is_public = |value| is_public_there(code, before, value);
+    let has_map = |map| (map as usize) < code.maps().len();
+    match *op {
+        Op::Const { value } => code.field().contains(value),
+        Op::PubAdd { left, right } | Op::PubMul { left, right } => {
+            is_public(left) && is_public(right)
+        }
+        Op::PubSq { arg } | Op::Lift { arg } => is_public(arg),
+        Op::PubMap { map, arg } => has_map(map) && is_public(arg),
+        Op::Add { left, right } | Op::Mul { left, right } => is_shared(left) && is_shared(right),
+        Op::AddPub { left, right } | Op::Scale { left, right } => {
+            is_shared(left) && is_public(right)
+        }
+        Op::Sq { arg } | Op::Refresh { arg } => is_shared(arg),
+        Op::Map { map, arg } => has_map(map) && is_shared(arg),
+    }
+}
+
+/// The first block that isn't wired, if there is one.
+pub(crate) fn first_unwired(code: &Code, blocks: &[Op]) -> Option<u32>
+    requires { length blocks.now < 2 ^ 32 }
+    ensures { MatchOption result (Wired code.now blocks.now) (λ k. FirstUnwired code.now blocks.now k) }
+{
+    for (k, op) in blocks.iter().enumerate() {
+        if !is_wired(code, &blocks[..k], op) {
+            return Some(k as u32);
+        }
+    }
+    None
+}
