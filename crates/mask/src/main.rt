@@ -5,8 +5,8 @@
 mod standard;
 
 use crate::standard::{StdErr, StdOut, StdSource};
-use mk_base::{Items, Memory, Sink, Source, Words, write_all};
-use std::alloc::Global;
+use mk_base::{Items, Memory, Words, write_all};
+use mk_top::{Status, code_of, mask_main};
 use std::env;
 use std::io::ErrorKind;
 use std::process::ExitCode;
@@ -18,11 +18,12 @@ fn main(rt: HostRuntime) -> ExitCode {
     let mut err = StdErr::new(rt.stderr());
     let Ok(words) = words(&rt) else {
         let _ = write_all(&mut err, b"8 memory\n");
-        return ExitCode::from(8);
+        return ExitCode::from(code_of(Status::Memory));
     };
     let mut source = StdSource::new(rt.stdin());
     let mut out = StdOut::new(rt.stdout());
-    run(rt.alloc(), &words, &mut source, &mut out, &mut err)
+    let status = mask_main(rt.alloc(), &words, &mut source, &mut out, &mut err);
+    ExitCode::from(code_of(status))
 }
 
 /// The arguments after the program's name. Where one of them is not text there are no words, which is
@@ -42,16 +43,4 @@ fn words(rt: &HostRuntime) -> Result<Words, Memory> {
         words.push(Items::from_vec(bytes))?;
     }
     Ok(words)
-}
-
-/// Carries out the command that the words name, of which there is none so far.
-fn run<S: Source, O: Sink, E: Sink>(
-    _alloc: Global,
-    _words: &Words,
-    _source: &mut S,
-    _out: &mut O,
-    err: &mut E,
-) -> ExitCode {
-    let _ = write_all(err, b"21 words\n");
-    ExitCode::from(2)
 }

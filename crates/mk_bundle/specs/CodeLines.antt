@@ -1,0 +1,33 @@
+-- The lines of a code: one for each additive map, one for each instruction and one for each output.
+use Rattle.std.specs.Prelude.{ℕ, zero, suc, List, [], ◌++◌, take, drop, flat_map, codes, decimal}
+use Rattle.mk_field.specs.declared.map.AddMap.{AddMap}
+use Rattle.mk_code.specs.declared.instr.Instr.{Instr}
+use Rattle.mk_code.specs.declared.instr.Instr.TheVariants.{Rnd, Const, Copy, Add, Mul, Sq, Map}
+use Rattle.mk_bundle.specs.Words.{line, hex_byte}
+
+-- the line of a map: the images of the eight bits, that of bit 0 first
+abbrev pub map_line : AddMap → List ℕ
+map_line map = line (codes "map " ++ flat_map hex_byte map.images)
+
+-- the line of an instruction
+abbrev pub instr_line : Instr → List ℕ
+instr_line Rnd = line (codes "rnd")
+instr_line (Const value) = line (codes "const " ++ hex_byte value)
+instr_line (Copy from) = line (codes "copy " ++ decimal from)
+instr_line (Add left right) = line (codes "add " ++ decimal left ++ codes " " ++ decimal right)
+instr_line (Mul left right) = line (codes "mul " ++ decimal left ++ codes " " ++ decimal right)
+instr_line (Sq from) = line (codes "sq " ++ decimal from)
+instr_line (Map map from) = line (codes "map " ++ decimal map ++ codes " " ++ decimal from)
+
+-- a space and a place in the trace
+abbrev pub place_word : ℕ → List ℕ
+place_word place = codes " " ++ decimal place
+
+-- the line of an output: the places of its shares
+abbrev pub out_line : List ℕ → List ℕ
+out_line places = line (codes "out" ++ flat_map place_word places)
+
+-- the lines of so many outputs, each of which has the next `shares` of the places
+unfoldable pub out_lines : ℕ → ℕ → List ℕ → List ℕ
+out_lines shares zero places = []
+out_lines shares (suc outputs) places = out_line (take shares places) ++ out_lines shares outputs (drop shares places)

@@ -1,0 +1,112 @@
+-- The texts of two small pairs, computed.
+use Rattle.std.specs.Prelude.{◌≡◌, ℕ, List, [], ◌∷◌, ◌++◌, codes, refl}
+use Rattle.std.specs.Fmt.{digits}
+use Rattle.mk_field.specs.declared.field.FieldId.TheVariants.{Gf256}
+use Rattle.mk_ssa.specs.declared.Operand.TheVariants.{Secret, Public, Block}
+use Rattle.mk_ssa.specs.declared.Op.TheVariants as op
+use Rattle.mk_code.specs.declared.instr.Instr.TheVariants.{Rnd, Const, Copy, Add, Mul, Sq, Map}
+use Rattle.mk_code.specs.Listing.{Listing}
+use Rattle.mk_rules.specs.Claimed.{Claimed}
+use Rattle.mk_bundle.specs.Words.{line}
+use Rattle.mk_bundle.specs.CodeLines.{out_lines}
+use Rattle.mk_bundle.specs.Text.{text}
+
+-- the sum of two secrets: shares 0 and 1 are those of the first secret, 2 and 3 those of the second
+abbrev pub sum_code : Listing
+sum_code = record { field = Gf256; order = 1; secrets = 2; publics = 0; maps = []; instrs = Add 0 2 ∷ Add 1 3 ∷ []; outs = 4 ∷ 5 ∷ [] }
+
+-- one block adds them, and the output is claimed to be its value
+abbrev pub sum_cert : Claimed
+sum_cert = record { blocks = op.Add (Secret 0) (Secret 1) ∷ []; claims = Block 0 ∷ [] }
+
+-- its twelve lines
+abbrev pub sum_text : List ℕ
+sum_text =
+    line (codes "mask 1")
+    ++ line (codes "field gf256")
+    ++ line (codes "order 1")
+    ++ line (codes "secrets 2")
+    ++ line (codes "publics 0")
+    ++ line (codes "block add s0 s1")
+    ++ line (codes "claim b0")
+    ++ line (codes "code")
+    ++ line (codes "add 0 2")
+    ++ line (codes "add 1 3")
+    ++ line (codes "out 4 5")
+    ++ line (codes "end")
+
+pub text-sum : text sum_code sum_cert ≡ sum_text
+unfolding digits out_lines
+text-sum = refl
+
+-- a code with an instruction of each kind, and two outputs
+abbrev pub kinds_code : Listing
+kinds_code = record {
+  field = Gf256;
+  order = 2;
+  secrets = 1;
+  publics = 1;
+  maps = record { images = 0x1f ∷ 0x3e ∷ 0x7c ∷ 0xf8 ∷ 0xf1 ∷ 0xe3 ∷ 0xc7 ∷ 0x8f ∷ [] } ∷ [];
+  instrs = Rnd ∷ Const 0x0a ∷ Copy 3 ∷ Add 0 4 ∷ Mul 1 5 ∷ Sq 2 ∷ Map 0 9 ∷ [];
+  outs = 0 ∷ 1 ∷ 2 ∷ 10 ∷ 9 ∷ 8 ∷ [];
+}
+
+-- a certificate with a block of each kind, and two claims; it is not one for that code
+abbrev pub kinds_cert : Claimed
+kinds_cert = record {
+  blocks = op.Const 0x63
+      ∷ op.PubAdd (Public 0) (Block 0)
+      ∷ op.PubMul (Block 0) (Block 1)
+      ∷ op.PubSq (Block 2)
+      ∷ op.PubMap 0 (Block 3)
+      ∷ op.Lift (Block 4)
+      ∷ op.Add (Secret 0) (Block 5)
+      ∷ op.AddPub (Block 6) (Public 0)
+      ∷ op.Scale (Block 7) (Block 0)
+      ∷ op.Sq (Block 8)
+      ∷ op.Map 0 (Block 9)
+      ∷ op.Mul (Block 10) (Secret 0)
+      ∷ op.Refresh (Block 11)
+      ∷ [];
+  claims = Secret 0 ∷ Block 12 ∷ [];
+}
+
+-- their lines
+abbrev pub kinds_text : List ℕ
+kinds_text =
+    line (codes "mask 1")
+    ++ line (codes "field gf256")
+    ++ line (codes "order 2")
+    ++ line (codes "secrets 1")
+    ++ line (codes "publics 1")
+    ++ line (codes "map 1f3e7cf8f1e3c78f")
+    ++ line (codes "block const 63")
+    ++ line (codes "block padd p0 b0")
+    ++ line (codes "block pmul b0 b1")
+    ++ line (codes "block psq b2")
+    ++ line (codes "block pmap 0 b3")
+    ++ line (codes "block lift b4")
+    ++ line (codes "block add s0 b5")
+    ++ line (codes "block addp b6 p0")
+    ++ line (codes "block scale b7 b0")
+    ++ line (codes "block sq b8")
+    ++ line (codes "block map 0 b9")
+    ++ line (codes "block mul b10 s0")
+    ++ line (codes "block refresh b11")
+    ++ line (codes "claim s0")
+    ++ line (codes "claim b12")
+    ++ line (codes "code")
+    ++ line (codes "rnd")
+    ++ line (codes "const 0a")
+    ++ line (codes "copy 3")
+    ++ line (codes "add 0 4")
+    ++ line (codes "mul 1 5")
+    ++ line (codes "sq 2")
+    ++ line (codes "map 0 9")
+    ++ line (codes "out 0 1 2")
+    ++ line (codes "out 10 9 8")
+    ++ line (codes "end")
+
+pub text-kinds : text kinds_code kinds_cert ≡ kinds_text
+unfolding digits out_lines
+text-kinds = refl

@@ -1,0 +1,39 @@
+-- The bundle text of a code and its certificate.
+use Rattle.std.specs.Prelude.{ℕ, ◌+◌, ◌/◌, List, ◌++◌, length, flat_map, codes, decimal}
+use Rattle.mk_field.specs.declared.field.FieldId.{FieldId}
+use Rattle.mk_field.specs.declared.field.FieldId.TheVariants.{Gf2, Gf256}
+use Rattle.mk_code.specs.Listing.{Listing}
+use Rattle.mk_rules.specs.Claimed.{Claimed}
+use Rattle.mk_bundle.specs.Words.{line}
+use Rattle.mk_bundle.specs.CertLines.{op_line, claim_line}
+use Rattle.mk_bundle.specs.CodeLines.{map_line, instr_line, out_lines}
+
+-- the line of a field
+abbrev pub field_line : FieldId → List ℕ
+field_line Gf2 = line (codes "field gf2")
+field_line Gf256 = line (codes "field gf256")
+
+-- a number with its name
+abbrev pub number_line : List ℕ → ℕ → List ℕ
+number_line name number = line (name ++ codes " " ++ decimal number)
+
+-- the first lines: the form's version, the field, the order and the numbers of inputs
+abbrev pub head_lines : Listing → List ℕ
+head_lines code =
+    line (codes "mask 1")
+    ++ field_line code.field
+    ++ number_line (codes "order") code.order
+    ++ number_line (codes "secrets") code.secrets
+    ++ number_line (codes "publics") code.publics
+
+-- the text: what is computed and claimed, and then how
+abbrev pub text : Listing → Claimed → List ℕ
+text code cert =
+    head_lines code
+    ++ flat_map map_line code.maps
+    ++ flat_map op_line cert.blocks
+    ++ flat_map claim_line cert.claims
+    ++ line (codes "code")
+    ++ flat_map instr_line code.instrs
+    ++ out_lines (code.order + 1) (length code.outs / (code.order + 1)) code.outs
+    ++ line (codes "end")

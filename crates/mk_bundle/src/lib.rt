@@ -1,0 +1,43 @@
+//! Bundle texts: a code and its certificate as lines of text. Each pair has one text.
+//!
+//! Each line ends with a line feed. Its words stand one space apart: numbers are decimal and without
+//! leading zeros, elements are two lower-case hexadecimal digits, and `V` is an operand, `sK`, `pK` or
+//! `bK`, for the secret, the public input or the block of number K. The lines are, in this order:
+//!
+//! - `mask 1`, `field gf2` or `field gf256`, `order T`, `secrets A`, `publics B`;
+//! - `map H` for each additive map, H being the images of the eight bits, that of bit 0 first;
+//! - for each block `block const C`, `block padd V V`, `block pmul V V`, `block psq V`,
+//!   `block pmap M V`, `block lift V`, `block add V V`, `block addp V V`, `block scale V V`,
+//!   `block sq V`, `block map M V`, `block mul V V` or `block refresh V`;
+//! - `claim V` for each claim, and then `code`;
+//! - for each instruction `rnd`, `const C`, `copy P`, `add P P`, `mul P P`, `sq P` or `map M P`;
+//! - `out` and the places of its shares for each output, and then `end`.
+//!
+//! A text has at most 131,072 blocks and 65,536 claims; a code keeps the limits on its own lines.
+#![tactic(auto)]
+
+mod lines;
+mod text;
+mod words;
+
+pub use text::to_text;
+
+#[cfg(test)]
+mod tests {
+    use super::*;
+    use mk_base::Items;
+    use mk_code::CodeBuilder;
+    use mk_field::Gf256;
+    use mk_rules::Cert;
+
+    #[test]
+    fn writes_the_empty_pair(rt: HostRuntime) -> Result<(), mk_base::Memory> {
+        let alloc = rt.alloc();
+        let builder = CodeBuilder::<Gf256>::new(alloc, 1, 0, 0, Items::new(alloc));
+        let code = builder.finish(Items::new(alloc));
+        let bytes = to_text(alloc, &code, &Cert::new(alloc))?;
+        let wanted = b"mask 1\nfield gf256\norder 1\nsecrets 0\npublics 0\ncode\nend\n";
+        assert_eq!(rt; bytes.as_slice(), wanted.as_slice());
+        Ok(())
+    }
+}

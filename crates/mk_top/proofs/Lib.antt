@@ -1,0 +1,15 @@
+pub mod Fronts
+pub mod Tokens
+pub mod Phrases
+pub mod Trees
+pub mod Cases
+pub mod Ranges
+pub mod Chain
+pub mod Sums
+pub mod Laying
+pub mod Names
+pub mod SumCode
+pub mod SumMeaning
+pub mod Commands
+pub mod Compiled
+pub mod Ends

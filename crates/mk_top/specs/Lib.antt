@@ -1,0 +1,9 @@
+pub mod First
+pub mod Reading
+pub mod Chain
+pub mod Correct
+pub mod Compiled
+pub mod Words
+pub mod Faults
+pub mod Answers
+pub mod Running

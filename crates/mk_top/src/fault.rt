@@ -1,0 +1,106 @@
+ghost use Rattle.std.specs.Prelude.{◌≡◌, ◌≤◌, ◌++◌, ◌∷◌, [], length, decimal};
+ghost use Rattle.mk_top.specs.Faults.{status_of, fault_line};
+
+use crate::first::SourceRefusal;
+use crate::status::Status;
+use arrayvec::ArrayString;
+use itoa::Buffer;
+use mk_base::Memory;
+
+/// Why a run ends without its text.
+#[derive(Clone, Copy, Debug, PartialEq, Eq)]
+pub enum Fault {
+    /// The words are no command.
+    Words,
+    /// The source is not of a form that is compiled yet.
+    NotYet,
+    /// Reading failed.
+    ReadFault,
+    /// Writing failed.
+    WriteFault,
+    /// Memory was wanted and not found.
+    Memory,
+    /// More bytes came than this limit.
+    TooLong { limit: u32 },
+}
+
+/// A fault line. It takes no memory, so that every refusal can be told.
+pub(crate) type FaultLine = ArrayString<64>;
+
+impl From<Memory> for Fault {
+    ghost use Rattle.std.specs.Prelude.{◌≡◌};
+    ghost use Rattle.mk_top.specs.declared.fault.Fault.TheVariants.{Memory};
+
+    ghost from_gives = { λ _ fault. fault ≡ Memory };
+
+    fn from(_memory: Memory) -> Fault {
+        Fault::Memory
+    }
+}
+
+impl From<SourceRefusal> for Fault {
+    ghost use Rattle.mk_top.specs.Faults.{fault_of_source};
+    ghost use Rattle.std.specs.Prelude.{◌≡◌};
+
+    ghost from_gives = { λ refusal fault. fault ≡ fault_of_source refusal };
+
+    fn from(refusal: SourceRefusal) -> Fault {
+        match refusal {
+            SourceRefusal::NotYet => Fault::NotYet,
+            SourceRefusal::Memory => Fault::Memory,
+        }
+    }
+}
+
+impl Fault {
+    /// The status that it ends with.
+    pub(crate) fn status(self) -> Status
+        ensures { result ≡ status_of self }
+    {
+        match self {
+            Fault::Words => Status::Words,
+            Fault::NotYet => Status::Source,
+            Fault::ReadFault => Status::ReadFault,
+            Fault::WriteFault => Status::WriteFault,
+            Fault::Memory => Status::Memory,
+            Fault::TooLong { limit: _ } => Status::TooLong,
+        }
+    }
+
+    /// Its line, with the line feed.
+    pub(crate) fn line(self) -> FaultLine
+        ensures { result.bytes ≡ fault_line self }
+    {
+        match self {
+            Fault::Words => fixed("21 words\n"),
+            Fault::NotYet => fixed("30 not yet 1:1\n"),
+            Fault::ReadFault => fixed("6 read fault\n"),
+            Fault::WriteFault => fixed("7 write fault\n"),
+            Fault::Memory => fixed("8 memory\n"),
+            Fault::TooLong { limit } => numbered("10 too long ", limit),
+        }
+    }
+}
+
+/// A line without a number.
+fn fixed(text: &str) -> FaultLine
+    requires { length text.now ≤ 64 }
+    ensures { result.bytes ≡ text.now }
+{
+    let mut line = FaultLine::new();
+    line.push_str(text);
+    line
+}
+
+/// A line that ends in a number.
+fn numbered(text: &str, number: u32) -> FaultLine
+    requires { length text.now ≤ 40 }
+    ensures { result.bytes ≡ text.now ++ decimal number ++ 10 ∷ [] }
+{
+    let mut digits = Buffer::new();
+    let mut line = FaultLine::new();
+    line.push_str(text);
+    line.push_str(digits.format(number));
+    line.push_str("\n");
+    line
+}

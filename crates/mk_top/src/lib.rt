@@ -1,0 +1,15 @@
+//! The compiler: it reads source texts, and finds the programs that they spell.
+#![tactic(auto)]
+
+mod command;
+mod compile;
+mod fault;
+mod first;
+mod source;
+mod status;
+mod top;
+
+pub use fault::Fault;
+pub use first::Program;
+pub use status::{Status, code_of};
+pub use top::mask_main;
