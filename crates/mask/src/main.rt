@@ -6,7 +6,7 @@ mod standard;
 
 use crate::standard::{StdErr, StdOut, StdSource};
 use mk_base::{Items, Memory, Words, write_all};
-use mk_top::{code_of, mask_main};
+use mk_top::{Status, code_of, mask_main};
 use std::env;
 use std::io::ErrorKind;
 use std::process::ExitCode;
@@ -18,7 +18,7 @@ fn main(rt: HostRuntime) -> ExitCode {
     let mut err = StdErr::new(rt.stderr());
     let Ok(words) = words(&rt) else {
         let _ = write_all(&mut err, b"8 memory\n");
-        return ExitCode::from(8);
+        return ExitCode::from(code_of(Status::Memory));
     };
     let mut source = StdSource::new(rt.stdin());
     let mut out = StdOut::new(rt.stdout());
