@@ -16,10 +16,14 @@
 //! A text has at most 131,072 blocks and 65,536 claims; a code keeps the limits on its own lines.
 #![tactic(auto)]
 
+mod draft;
 mod lines;
+mod parse;
+mod read;
 mod text;
 mod words;
 
+pub use read::{BundleRefusal, read_bundle, texts_differ};
 pub use text::to_text;
 
 #[cfg(test)]
