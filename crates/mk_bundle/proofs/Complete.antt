@@ -1,6 +1,6 @@
 -- The lines of the text of a pair are read, one after the other, up to the pair.
-use Rattle.std.proofs.Common.{◌≡◌, ℕ, zero, suc, ◌+◌, ◌*◌, ◌/◌, ◌^◌, ◌<◌, ◌≤◌, Bool, true, false, List, [], ◌∷◌, ◌++◌, length, take, drop, Option, Some, None, nat_lt, All, refl, sym, ap, subst, ◌∙◌, inl, inr, arith, append_assoc, length-append}
-use Rattle.std.specs.Prelude.{cond, codes, decimal, flat_map, bytes_eq, ◌&&◌, slice_index_or}
+use Rattle.std.proofs.Common.{◌≡◌, ℕ, zero, suc, ◌+◌, ◌*◌, ◌/◌, ◌^◌, ◌<◌, ◌≤◌, true, List, [], ◌∷◌, ◌++◌, length, take, drop, Option, Some, None, nat_lt, refl, sym, ap, subst, ◌∙◌, arith, append_assoc, length-append}
+use Rattle.std.specs.Prelude.{codes, decimal, flat_map, slice_index_or}
 use Rattle.std.specs.List.{AllByRecursion}
 use Rattle.std.proofs.lemmas.Bool.{lt-ltb, le-ltb, and_from}
 use Rattle.std.proofs.lemmas.List.{append-nil, nil_from_length, take-append-drop, length-take-le, length-drop}
@@ -21,16 +21,14 @@ use Rattle.mk_bundle.specs.CertLines.{op_line, claim_line}
 use Rattle.mk_bundle.specs.CodeLines.{map_line, instr_line, place_word, out_line, out_lines}
 use Rattle.mk_bundle.specs.Text.{field_line, number_line, head_lines, text}
 use Rattle.mk_bundle.specs.Pairs.{OperandFits, OpFits, MapFits, IsPair, is_line, AreLines}
-use Rattle.mk_bundle.specs.declared.draft.Stage.{Stage}
-use Rattle.mk_bundle.specs.declared.draft.Stage.TheVariants.{Version, Field, Order, Secrets, Publics, Upper, Lower, Ended}
-use Rattle.mk_bundle.specs.Parsing.{◌>>=◌, after, whole, behind, number_at, number_of, map_of, operand_of, op_of, instr_of}
+use Rattle.mk_bundle.specs.declared.draft.Stage.TheVariants.{Field, Order, Secrets, Publics, Upper, Lower, Ended}
+use Rattle.mk_bundle.specs.Parsing.{◌>>=◌, after, whole}
 use Rattle.mk_bundle.specs.Reading.{State, start, version_line, field_line_of, field_read, headed, order_read, secrets_read, publics_read, has_maps, may_map, map_read, may_block, block_read, claim_read, code_read, upper_read, fits_at, may_instr, instr_read, places_of, out_read, lower_read, read_at, line_read, lines_read}
-use Rattle.mk_bundle.proofs.Appended.{out_lines-none, out_lines-more}
-use Rattle.mk_bundle.proofs.Steps.{bind_some, same_some, after_again}
+use Rattle.mk_bundle.proofs.Steps.{after_again}
 use Rattle.mk_bundle.proofs.Numbers.{EndsNumber, number_again, number_of_again}
 use Rattle.mk_bundle.proofs.Spelled.{map_again, operand_of_again}
 use Rattle.mk_bundle.proofs.Variants.{op_words, op_line-words, op_again, instr_words, InstrFits, instr_line-words, instr_again}
-use Rattle.mk_bundle.proofs.Feeds.{is_line-append, is_line-decimal, is_line-images, is_line-places, is_line-operand, is_line-op, is_line-instr}
+use Rattle.mk_bundle.proofs.Feeds.{is_line-decimal, is_line-images, is_line-places, is_line-operand, is_line-op, is_line-instr}
 use Rattle.mk_bundle.proofs.Sound.{at}
 
 -- ---- runs over lines

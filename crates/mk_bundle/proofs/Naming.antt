@@ -1,10 +1,8 @@
 -- The line that is named, and texts that differ.
-use Rattle.std.proofs.Common.{◌≡◌, ℕ, zero, suc, ◌+◌, ◌/◌, ◌<◌, ◌≤◌, Bool, true, false, List, [], ◌∷◌, ◌++◌, length, take, drop, Option, Some, None, refl, sym, ap, subst, ◌∙◌, arith, append_assoc, length-append}
+use Rattle.std.proofs.Common.{◌≡◌, ℕ, ◌+◌, ◌/◌, ◌≤◌, true, List, [], ◌∷◌, ◌++◌, length, take, drop, Option, Some, None, refl, sym, ap, subst, ◌∙◌, arith, append_assoc, length-append}
 use Rattle.std.specs.Prelude.{codes, flat_map}
-use Rattle.std.specs.List.{AllByRecursion}
 use Rattle.std.proofs.lemmas.List.{append-nil, take-append-drop, length-take-le}
 use Rattle.std.proofs.lemmas.Grind.{flat_map-append}
-use Rattle.mk_field.specs.declared.field.FieldId.TheVariants.{Gf2}
 use Rattle.mk_code.specs.Listing.{Listing}
 use Rattle.mk_rules.specs.Claimed.{Claimed}
 use Rattle.mk_bundle.specs.Words.{line}
@@ -18,8 +16,8 @@ use Rattle.mk_bundle.specs.Parsing.{◌>>=◌}
 use Rattle.mk_bundle.specs.Reading.{State, start, read_at, line_read, lines_read, HasBounds}
 use Rattle.mk_bundle.proofs.Steps.{bind_some, same_some}
 use Rattle.mk_bundle.proofs.Feeds.{first_line, has_feed}
-use Rattle.mk_bundle.proofs.Sound.{at, text_at, upper_text, lower_text, Good, Goes, IsFresh, fresh_pair, line_goes}
-use Rattle.mk_bundle.proofs.Complete.{Runs, text_runs, lines_read-append, All-append, All-front, All-back}
+use Rattle.mk_bundle.proofs.Sound.{at, text_at, upper_text, lower_text, Good, IsFresh, fresh_pair, line_goes}
+use Rattle.mk_bundle.proofs.Complete.{text_runs, lines_read-append, All-append, All-front, All-back}
 
 abbrev GoodAt : State → Type 0
 GoodAt st = Good st.stage st.code st.cert

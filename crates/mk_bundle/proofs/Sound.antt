@@ -1,5 +1,5 @@
 -- What was read so far is the front of the text of the pair so far, and the pair is within the limits.
-use Rattle.std.proofs.Common.{◌≡◌, ℕ, zero, suc, ◌+◌, ◌*◌, ◌/◌, ◌^◌, ◌<◌, ◌≤◌, Bool, true, false, ◌⊎◌, List, [], ◌∷◌, ◌++◌, length, take, drop, Option, Some, None, nat_lt, All, refl, sym, ap, subst, ◌∙◌, inl, inr, arith, rules, append_assoc, length-append, add-one}
+use Rattle.std.proofs.Common.{◌≡◌, ℕ, zero, suc, ◌+◌, ◌*◌, ◌/◌, ◌<◌, ◌≤◌, true, List, [], ◌∷◌, ◌++◌, length, take, drop, Some, None, nat_lt, refl, sym, ap, subst, ◌∙◌, inl, inr, arith, append_assoc, length-append, add-one}
 use Rattle.std.specs.Prelude.{cond, codes, decimal, flat_map, bytes_eq, ◌&&◌, slice_index_or}
 use Rattle.std.specs.List.{AllByRecursion}
 use Rattle.std.proofs.lemmas.Bool.{ltb-true, ltb-false, and_parts}
@@ -19,20 +19,20 @@ use Rattle.mk_code.specs.declared.instr.Instr.TheVariants as instr
 use Rattle.mk_code.specs.Listing.{Listing, IsListing, HasMapsOnlyInBytes, AllFit, FitsAt, inputs_len, trace_len}
 use Rattle.mk_code.proofs.Instrs.{AllFit-push}
 use Rattle.mk_rules.specs.Claimed.{Claimed}
-use Rattle.mk_bundle.specs.Words.{line, hex_byte, operand_word}
+use Rattle.mk_bundle.specs.Words.{line}
 use Rattle.mk_bundle.specs.CertLines.{op_line, claim_line}
 use Rattle.mk_bundle.specs.CodeLines.{map_line, instr_line, place_word, out_line, out_lines}
 use Rattle.mk_bundle.specs.Text.{field_line, number_line, head_lines, text}
 use Rattle.mk_bundle.specs.Pairs.{OperandFits, OpFits, MapFits, IsPair}
 use Rattle.mk_bundle.specs.declared.draft.Stage.{Stage}
 use Rattle.mk_bundle.specs.declared.draft.Stage.TheVariants.{Version, Field, Order, Secrets, Publics, Upper, Lower, Ended}
-use Rattle.mk_bundle.specs.Parsing.{◌>>=◌, after, whole, behind, number_at, number_of, map_of, operand_of, op_of, instr_of}
-use Rattle.mk_bundle.specs.Reading.{State, version_line, field_line_of, field_read, headed, order_read, secrets_read, publics_read, has_maps, may_map, map_read, may_block, block_read, claim_read, code_read, upper_read, fits_at, may_instr, instr_read, places_of, out_read, lower_read, read_at, line_read}
-use Rattle.mk_bundle.proofs.Appended.{out_lines-none, out_lines-more}
+use Rattle.mk_bundle.specs.Parsing.{◌>>=◌, after, number_at, number_of, map_of, operand_of, op_of, instr_of}
+use Rattle.mk_bundle.specs.Reading.{State, version_line, field_line_of, field_read, headed, order_read, secrets_read, publics_read, has_maps, may_map, map_read, may_block, block_read, claim_read, code_read, upper_read, fits_at, may_instr, instr_read, places_of, out_read, lower_read, read_at}
+use Rattle.mk_bundle.proofs.Appended.{out_lines-none}
 use Rattle.mk_bundle.proofs.Steps.{bind_some, same_some, chosen, passed, not_passed, after_found, whole_found, behind_found, is_word}
 use Rattle.mk_bundle.proofs.Numbers.{number_found, number_of_found}
 use Rattle.mk_bundle.proofs.Spelled.{map_found, operand_of_found}
-use Rattle.mk_bundle.proofs.Variants.{op_words, op_line-words, op_found, instr_words, instr_line-words, instr_found}
+use Rattle.mk_bundle.proofs.Variants.{op_line-words, op_found, instr_line-words, instr_found}
 
 -- a state of these parts
 abbrev pub at : Stage → Listing → Claimed → State

@@ -1,7 +1,6 @@
 -- Reading the words of a line from its front on, as lists.
 use Rattle.std.specs.Prelude.{◌≡◌, ℕ, zero, suc, ◌+◌, ◌-◌, ◌*◌, ◌^◌, ◌==◌, Bool, true, false, ◌&&◌, not, List, [], ◌∷◌, length, drop, take_while, Option, Some, None, nat_lt, bytes_eq, codes, if◌then◌else◌}
 use Rattle.std.specs.Char.{is_ascii_digit}
-use Rattle.std.specs.Option.{option_map_or}
 use Rattle.mk_field.specs.declared.map.AddMap.{AddMap}
 use Rattle.mk_ssa.specs.declared.Operand.{Operand}
 use Rattle.mk_ssa.specs.declared.Operand.TheVariants.{Secret, Public, Block}

@@ -9,6 +9,9 @@ use mk_rules::Bundle;
 use std::alloc::Global;
 use thiserror::Error;
 
+/// The most bytes of a text that is read.
+pub const MOST_BYTES: usize = 268_435_456;
+
 /// Why a text is not read.
 #[derive(Clone, Copy, Debug, PartialEq, Eq, Error)]
 pub enum BundleRefusal {

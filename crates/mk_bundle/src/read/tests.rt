@@ -1,3 +1,6 @@
+ghost use Rattle.std.specs.Prelude.{IfOk};
+ghost use Rattle.mk_bundle.specs.Pairs.{IsPair};
+
 use super::*;
 use crate::to_text;
 use std::test::*;
@@ -10,15 +13,23 @@ const SUM: &str =
 const KINDS: &str =
     "mask 1\nfield gf256\norder 2\nsecrets 1\npublics 1\nmap 1f3e7cf8f1e3c78f\nblock const 63\nblock padd p0 b0\nblock pmul b0 b1\nblock psq b2\nblock pmap 0 b3\nblock lift b4\nblock add s0 b5\nblock addp b6 p0\nblock scale b7 b0\nblock sq b8\nblock map 0 b9\nblock mul b10 s0\nblock refresh b11\nclaim s0\nclaim b12\ncode\nrnd\nconst 0a\ncopy 3\nadd 0 4\nmul 1 5\nsq 2\nmap 0 9\nout 0 1 2\nout 10 9 8\nend\n";
 
+/// What is read of a text that isn't too long.
+fn read(rt: &HostRuntime, text: &str) -> Result<Bundle, BundleRefusal>
+    ensures { IfOk result (λ b. IsPair b.code b.cert) }
+{
+    if text.len() > MOST_BYTES {
+        return Err(BundleRefusal::Memory);
+    }
+    read_bundle(rt.alloc(), text.as_bytes())
+}
+
 #[test]
 fn texts_are_read_and_written_again(rt: HostRuntime) -> Result<(), Fail> {
     let least = "mask 1\nfield gf2\norder 8\nsecrets 0\npublics 65536\ncode\nend\n";
     let free =
         "mask 1\nfield gf2\norder 1\nsecrets 1\npublics 0\nblock map 4294967295 b4294967295\nclaim p9\ncode\ncopy 0\nconst 01\nend\n";
     for text in [SUM, KINDS, least, free] {
-        let bundle = read_bundle(rt.alloc(), text.as_bytes())
-            .ok()
-            .ok_or("the text is a bundle's")?;
+        let bundle = read(&rt, text).ok().ok_or("the text is a bundle's")?;
         let again = to_text(rt.alloc(), &bundle.code, &bundle.cert)
             .ok()
             .ok_or("there is memory")?;
@@ -29,7 +40,7 @@ fn texts_are_read_and_written_again(rt: HostRuntime) -> Result<(), Fail> {
 
 /// The line that is named, or 0 where none is.
 fn named(rt: &HostRuntime, text: &str) -> u32 {
-    match read_bundle(rt.alloc(), text.as_bytes()) {
+    match read(rt, text) {
         Err(BundleRefusal::Form { line }) => line,
         _ => 0,
     }

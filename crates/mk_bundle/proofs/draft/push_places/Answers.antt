@@ -1,6 +1,5 @@
 -- Place after place.
-use Rattle.std.proofs.Common.{◌≡◌, ◌≢◌, ◌+◌, ◌-◌, ◌<◌, ◌++◌, ℕ, suc, List, [], ◌∷◌, length, take, Some, None, Option, arith, rules, sym, ◌∙◌, ap, append_assoc}
-use Rattle.mk_bundle.specs.Reading.{places_of}
+use Rattle.std.proofs.Common.{◌≡◌, ◌+◌, ◌-◌, ◌++◌, ℕ, suc, List, [], ◌∷◌, arith, ◌∙◌, ap, append_assoc}
 use Rattle.mk_bundle.proofs.Steps.{some_bytes, no_bytes}
 use Rattle.mk_bundle.proofs.Loops.{place_more, place_no_space, place_no_number, place_high, places_done, places_behind}
 use Rattle.mk_bundle.proofs.draft.push_places.Goals as goal

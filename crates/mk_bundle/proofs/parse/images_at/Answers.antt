@@ -1,5 +1,5 @@
 -- Image after image.
-use Rattle.std.proofs.Common.{◌≡◌, ◌+◌, ◌-◌, ◌<◌, ◌++◌, ℕ, suc, List, [], ◌∷◌, length, take, Option, Some, arith, sym, ◌∙◌, ap, add-one, length-set}
+use Rattle.std.proofs.Common.{◌≡◌, ◌+◌, ◌-◌, ◌<◌, ◌++◌, ℕ, suc, List, [], ◌∷◌, length, take, Some, arith, ◌∙◌, ap, add-one, length-set}
 use Rattle.std.proofs.Math.ListN.{set}
 use Rattle.std.proofs.Math.Seq.{take-suc-set, take-length}
 use Rattle.mk_bundle.specs.Parsing.{◌>>=◌, images_at}

@@ -1,6 +1,6 @@
 -- Digit after digit.
-use Rattle.std.proofs.Common.{◌≡◌, ◌+◌, ◌*◌, ◌<◌, ◌≤◌, ◌^◌, ℕ, arith, rules, sym, ◌∙◌, ap, get_or, ◌-◌, drop}
-use Rattle.mk_bundle.specs.Parsing.{number_by, valued}
+use Rattle.std.proofs.Common.{◌≡◌, ◌+◌, ◌*◌, ℕ, arith, sym, ◌∙◌, ap, get_or, ◌-◌, drop}
+use Rattle.mk_bundle.specs.Parsing.{valued}
 use Rattle.mk_bundle.proofs.Loops.{digit_more, too_large, all_digits}
 use Rattle.mk_bundle.proofs.parse.number_by.Goals as goal
 

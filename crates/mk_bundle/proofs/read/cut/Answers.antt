@@ -1,7 +1,7 @@
 -- The first line feed stands behind the line.
-use Rattle.std.proofs.Common.{◌≡◌, ℕ, List, length, take, drop, ap, ◌∙◌, arith}
+use Rattle.std.proofs.Common.{ℕ, take, drop, ap, ◌∙◌, arith}
 use Rattle.std.proofs.lemmas.List.{nil_from_length}
-use Rattle.mk_bundle.proofs.Feeds.{fed_front, cuts_behind, cuts_nothing}
+use Rattle.mk_bundle.proofs.Feeds.{cuts_behind, cuts_nothing}
 use Rattle.mk_bundle.proofs.read.cut.Goals as goal
 
 pub returns-in-empty : goal.returns-in-empty

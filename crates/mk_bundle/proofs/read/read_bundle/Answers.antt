@@ -1,9 +1,9 @@
 -- Line after line; where one does not go on, it is the line that is named.
-use Rattle.std.proofs.Common.{◌≡◌, ◌+◌, ◌≤◌, ℕ, List, [], length, true, false, sym, ap, subst, ◌∙◌, arith}
-use Rattle.mk_bundle.specs.Pairs.{NamesFirst, IsBundleText}
-use Rattle.mk_bundle.specs.Reading.{State, state_of}
+use Rattle.std.proofs.Common.{◌≡◌, ℕ, [], true, sym, subst, arith}
+use Rattle.mk_bundle.specs.Pairs.{NamesFirst}
+use Rattle.mk_bundle.specs.Reading.{state_of}
 use Rattle.mk_bundle.proofs.Steps.{some_bytes, no_bytes}
-use Rattle.mk_bundle.proofs.Naming.{Progress, Stuck, begun, further, bounds, reached, number_small, names, no_text, whole_text, stuck_at, stuck_end, some_left, same_pair}
+use Rattle.mk_bundle.proofs.Naming.{Progress, begun, further, bounds, reached, number_small, names, no_text, whole_text, stuck_at, stuck_end, some_left, same_pair}
 use Rattle.mk_bundle.proofs.read.read_bundle.Goals as goal
 
 pub loop-line-init : goal.loop-line-init
