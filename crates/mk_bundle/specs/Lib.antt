@@ -3,3 +3,7 @@ pub mod CertLines
 pub mod CodeLines
 pub mod Text
 pub mod Sample
+pub mod Pairs
+pub mod Parsing
+pub mod Reading
+pub mod Cutting

@@ -14,12 +14,21 @@
 //! - `out` and the places of its shares for each output, and then `end`.
 //!
 //! A text has at most 131,072 blocks and 65,536 claims; a code keeps the limits on its own lines.
+//! Places and maps in the lines of a code are those that there are, and elements are of its field. In
+//! the lines of blocks numbers are any of 32 bits.
+//!
+//! Reading names the first line where no bundle text goes on. A text is cut into lines that end with a
+//! line feed; what stands behind the last one is a further line, which lacks it.
 #![tactic(auto)]
 
+mod draft;
 mod lines;
+mod parse;
+mod read;
 mod text;
 mod words;
 
+pub use read::{BundleRefusal, MOST_BYTES, read_bundle, texts_differ};
 pub use text::to_text;
 
 #[cfg(test)]

@@ -43,6 +43,32 @@ impl Model for Code {
 }
 
 impl Code {
+    /// The code with these parts, which fit together. It takes no memory.
+    pub fn new(
+        field: FieldId,
+        order: u8,
+        secrets: u32,
+        publics: u32,
+        maps: MapList,
+        instrs: InstrList,
+        outs: PositionList,
+    ) -> Code
+        requires { IsListing (record { field = field; order = order; secrets = secrets; publics = publics; maps = maps; instrs = instrs; outs = outs }) }
+        ensures { result ≡ record { field = field; order = order; secrets = secrets; publics = publics; maps = maps; instrs = instrs; outs = outs } }
+    {
+        let random_len = count_randoms(instrs.as_slice());
+        Code {
+            field,
+            order,
+            secrets,
+            publics,
+            maps,
+            instrs,
+            outs,
+            random_len,
+        }
+    }
+
     /// The field that it computes in.
     pub fn field(&self) -> FieldId
         ensures value { result ≡ self.now.field }
@@ -106,4 +132,16 @@ impl Code {
     {
         self.secrets * (u32::from(self.order) + 1) + self.publics + self.instrs.len() as u32
     }
+}
+
+/// How many random elements the instructions take.
+fn count_randoms(instrs: &[Instr]) -> u32
+    requires { length instrs.now < 2 ^ 32 }
+    ensures { result ≡ randoms instrs.now }
+{
+    let mut count = 0;
+    for instr in instrs {
+        count += instr.randoms();
+    }
+    count
 }

@@ -1,0 +1,270 @@
+-- The line that is named, and texts that differ.
+use Rattle.std.proofs.Common.{◌≡◌, ℕ, ◌+◌, ◌/◌, ◌≤◌, true, List, [], ◌∷◌, ◌++◌, length, take, drop, Option, Some, None, refl, sym, ap, subst, ◌∙◌, arith, append_assoc, length-append}
+use Rattle.std.specs.Prelude.{codes, flat_map}
+use Rattle.std.proofs.lemmas.List.{append-nil, take-append-drop, length-take-le}
+use Rattle.std.proofs.lemmas.Grind.{flat_map-append}
+use Rattle.mk_code.specs.Listing.{Listing}
+use Rattle.mk_rules.specs.Claimed.{Claimed}
+use Rattle.mk_bundle.specs.Words.{line}
+use Rattle.mk_bundle.specs.CertLines.{op_line, claim_line}
+use Rattle.mk_bundle.specs.CodeLines.{map_line, instr_line, out_lines}
+use Rattle.mk_bundle.specs.Text.{field_line, number_line, head_lines, text}
+use Rattle.mk_bundle.specs.Pairs.{IsPair, IsBundleText, is_line, AreLines, BeginsWith, GoesWellFor, NamesFirst, TextsDiffer}
+use Rattle.mk_bundle.specs.declared.draft.Stage.{Stage}
+use Rattle.mk_bundle.specs.declared.draft.Stage.TheVariants.{Version, Field, Order, Secrets, Publics, Upper, Lower, Ended}
+use Rattle.mk_bundle.specs.Parsing.{◌>>=◌}
+use Rattle.mk_bundle.specs.Reading.{State, start, read_at, line_read, lines_read, HasBounds}
+use Rattle.mk_bundle.proofs.Steps.{bind_some, same_some}
+use Rattle.mk_bundle.proofs.Feeds.{first_line, has_feed}
+use Rattle.mk_bundle.proofs.Sound.{at, text_at, upper_text, lower_text, Good, IsFresh, fresh_pair, line_goes}
+use Rattle.mk_bundle.proofs.Complete.{text_runs, lines_read-append, All-append, All-front, All-back}
+
+abbrev GoodAt : State → Type 0
+GoodAt st = Good st.stage st.code st.cert
+
+abbrev so_far : State → List ℕ
+so_far st = text_at st.stage st.code st.cert
+
+-- ---- what was read
+
+start_good : GoodAt start
+start_good =
+    let fresh : IsFresh start.code start.cert = record { maps = refl; instrs = refl; outs = refl; blocks = refl; claims = refl } in
+    record { pair = fresh_pair start.code start.cert fresh (omega arith, omega arith) (omega arith) (omega arith); blank = fresh }
+
+all_go : (lines : List (List ℕ)) (from to : State) → GoodAt from → lines_read from lines ≡ Some to → GoodAt to × (so_far to ≡ so_far from ++ flat_map line lines)
+unfolding lines_read
+all_go [] from to good e = subst (λ (st : State). GoodAt st × (so_far st ≡ so_far from ++ [])) (same_some from to e) (good, sym (append-nil (so_far from)))
+all_go (l ∷ lines) from to good e =
+    let a = bind_some (line_read from l) (λ (next : State). lines_read next lines) to e in
+    let goes = line_goes from.stage from.code from.cert l a.0 good a.1 in
+    let others = all_go lines a.0 to goes.good a.2 in
+    (others.0, others.1 ∙ ap (λ (r : List ℕ). r ++ flat_map line lines) goes.more ∙ append_assoc (so_far from) (line l) (flat_map line lines))
+
+pub reached : (lines : List (List ℕ)) (st : State) → lines_read start lines ≡ Some st → GoodAt st × (so_far st ≡ flat_map line lines)
+reached lines st e = all_go lines start st start_good e
+
+pub bounds : (lines : List (List ℕ)) (st : State) → lines_read start lines ≡ Some st → HasBounds st.code
+bounds lines st e =
+    let listing = (reached lines st e).0.pair.listing in
+    record { order = listing.order.1; secrets = listing.secrets; publics = listing.publics; few = listing.few }
+
+-- ---- the text of the pair goes on with it
+
+abbrev Front : List ℕ → List ℕ → Type 0
+Front xs ys = (rest : List ℕ) × (ys ≡ xs ++ rest)
+
+front_more : (xs ys more : List ℕ) → Front xs ys → Front xs (ys ++ more)
+front_more xs ys more h = (h.0 ++ more, ap (λ (r : List ℕ). r ++ more) h.1 ∙ append_assoc xs h.0 more)
+
+front_same : (xs : List ℕ) → Front xs xs
+front_same xs = ([], sym (append-nil xs))
+
+-- from a front of the lines before the code on
+from_upper : (xs : List ℕ) (code : Listing) (cert : Claimed) → Front xs (upper_text code cert) → Front xs (text code cert)
+from_upper xs code cert h =
+    let begun : List ℕ = upper_text code cert ++ line (codes "code") in
+    let filled : List ℕ = upper_text code cert ++ line (codes "code") ++ flat_map instr_line code.instrs in
+    let outs : List ℕ = out_lines (code.order + 1) (length code.outs / (code.order + 1)) code.outs in
+    front_more xs (lower_text code cert) (line (codes "end")) (front_more xs filled outs (front_more xs begun (flat_map instr_line code.instrs) (front_more xs (upper_text code cert) (line (codes "code")) h)))
+
+from_head : (xs : List ℕ) (code : Listing) (cert : Claimed) → Front xs (head_lines code) → Front xs (text code cert)
+from_head xs code cert h =
+    let mapped : List ℕ = head_lines code ++ flat_map map_line code.maps in
+    let filled : List ℕ = head_lines code ++ flat_map map_line code.maps ++ flat_map op_line cert.blocks in
+    from_upper xs code cert (front_more xs filled (flat_map claim_line cert.claims) (front_more xs mapped (flat_map op_line cert.blocks) (front_more xs (head_lines code) (flat_map map_line code.maps) h)))
+
+from_publics : (xs : List ℕ) (code : Listing) (cert : Claimed) → Front xs (text_at Publics code cert) → Front xs (text code cert)
+from_publics xs code cert h = from_head xs code cert (front_more xs (text_at Publics code cert) (number_line (codes "publics") code.publics) h)
+
+from_secrets : (xs : List ℕ) (code : Listing) (cert : Claimed) → Front xs (text_at Secrets code cert) → Front xs (text code cert)
+from_secrets xs code cert h = from_publics xs code cert (front_more xs (text_at Secrets code cert) (number_line (codes "secrets") code.secrets) h)
+
+from_order : (xs : List ℕ) (code : Listing) (cert : Claimed) → Front xs (text_at Order code cert) → Front xs (text code cert)
+from_order xs code cert h = from_secrets xs code cert (front_more xs (text_at Order code cert) (number_line (codes "order") code.order) h)
+
+completes : (stage : Stage) (code : Listing) (cert : Claimed) → Front (text_at stage code cert) (text code cert)
+completes Version code cert = (text code cert, refl)
+completes Field code cert =
+    from_order (text_at Field code cert) code cert (front_more (text_at Field code cert) (text_at Field code cert) (field_line code.field) (front_same (text_at Field code cert)))
+completes Order code cert = from_order (text_at Order code cert) code cert (front_same (text_at Order code cert))
+completes Secrets code cert = from_secrets (text_at Secrets code cert) code cert (front_same (text_at Secrets code cert))
+completes Publics code cert = from_publics (text_at Publics code cert) code cert (front_same (text_at Publics code cert))
+completes Upper code cert = from_upper (upper_text code cert) code cert (front_same (upper_text code cert))
+completes Lower code cert = front_more (lower_text code cert) (lower_text code cert) (line (codes "end")) (front_same (lower_text code cert))
+completes Ended code cert = front_same (text code cert)
+
+-- ---- lines and their bytes
+
+joined : (l : List ℕ) (lines : List (List ℕ)) (rest : List ℕ) → flat_map line (l ∷ lines) ++ rest ≡ l ++ 10 ∷ (flat_map line lines ++ rest)
+joined l lines rest = append_assoc (line l) (flat_map line lines) rest ∙ append_assoc l (10 ∷ []) (flat_map line lines ++ rest)
+
+not_nil : (l rest : List ℕ) → [] ≡ l ++ 10 ∷ rest → ⊥
+not_nil [] rest e = absurd cc
+not_nil (b ∷ l) rest e = absurd cc
+
+-- lines that begin with other lines
+prefix_lines : (lines whole : List (List ℕ)) (rest : List ℕ) → AreLines lines → AreLines whole → flat_map line whole ≡ flat_map line lines ++ rest → (more : List (List ℕ)) × (whole ≡ lines ++ more) × (rest ≡ flat_map line more)
+prefix_lines [] whole rest clean clean_whole e = (whole, refl, sym e)
+prefix_lines (l ∷ lines) [] rest clean clean_whole e = absurd (not_nil l (flat_map line lines ++ rest) (e ∙ joined l lines rest))
+prefix_lines (l ∷ lines) (w ∷ whole) rest clean clean_whole e =
+    let first = first_line w l (flat_map line whole) (flat_map line lines ++ rest) clean_whole.0 clean.0 (sym (append_assoc w (10 ∷ []) (flat_map line whole)) ∙ e ∙ joined l lines rest) in
+    let others = prefix_lines lines whole rest clean.1 clean_whole.1 first.1 in
+    (others.0, ap (λ (v : List ℕ). v ∷ whole) first.0 ∙ ap (λ (vs : List (List ℕ)). l ∷ vs) others.1, others.2)
+
+-- one line more
+last_line : (lines longer : List (List ℕ)) (rest left : List ℕ) → AreLines lines → AreLines longer → length longer ≡ length lines + 1 → flat_map line lines ++ rest ≡ flat_map line longer ++ left
+    → (l : List ℕ) × (longer ≡ lines ++ l ∷ []) × (rest ≡ l ++ 10 ∷ left) × (is_line l ≡ true)
+last_line [] [] rest left clean clean_longer one e = absurd (omega (arith, one))
+last_line [] (l ∷ []) rest left clean clean_longer one e = (l, refl, e ∙ joined l [] left, clean_longer.0)
+last_line [] (l ∷ m ∷ longer) rest left clean clean_longer one e = absurd (omega (arith, one))
+last_line (k ∷ lines) [] rest left clean clean_longer one e = absurd (omega (arith, one))
+last_line (k ∷ lines) (l ∷ longer) rest left clean clean_longer one e =
+    let first = first_line k l (flat_map line lines ++ rest) (flat_map line longer ++ left) clean.0 clean_longer.0 (sym (joined k lines rest) ∙ e ∙ joined l longer left) in
+    let others = last_line lines longer rest left clean.1 clean_longer.1 (omega (arith, one)) first.1 in
+    (others.0, ap (λ (v : List ℕ). v ∷ longer) (sym first.0) ∙ ap (λ (vs : List (List ℕ)). k ∷ vs) others.1, others.2, others.3)
+
+pub few_lines : (lines : List (List ℕ)) → length lines ≤ length (flat_map line lines)
+few_lines [] = omega arith
+few_lines (l ∷ lines) =
+    let a : length (line l ++ flat_map line lines) ≡ length (line l) + length (flat_map line lines) = length-append (line l) (flat_map line lines) in
+    let b : length (line l) ≡ length l + 1 = length-append l (10 ∷ []) in
+    omega (arith, a, b, few_lines lines)
+
+-- ---- how far reading came
+
+-- these lines were read, and the rest is left
+pub record Progress (bytes rest : List ℕ) (number : ℕ) (st : State) : Type 0 where
+  pub lines : List (List ℕ)
+  pub clean : AreLines lines
+  pub parts : bytes ≡ flat_map line lines ++ rest
+  pub read : lines_read start lines ≡ Some st
+  pub count : number ≡ length lines + 1
+
+-- no line that stands at the front of the rest is read
+abbrev pub Stuck : State → List ℕ → Type 0
+Stuck st rest = (l behind : List ℕ) → is_line l ≡ true → rest ≡ l ++ 10 ∷ behind → line_read st l ≡ None
+
+pub begun : (bytes : List ℕ) → Progress bytes bytes 1 start
+unfolding lines_read
+begun bytes = record { lines = []; clean = tt; parts = refl; read = refl; count = omega arith }
+
+pub further : (bytes rest l behind : List ℕ) (number : ℕ) (st next : State) → Progress bytes rest number st → is_line l ≡ true → rest ≡ l ++ 10 ∷ behind → line_read st l ≡ Some next → Progress bytes behind (number + 1) next
+unfolding lines_read
+further bytes rest l behind number st next so clean here e = record {
+  lines = so.lines ++ l ∷ [];
+  clean = All-append (λ l. is_line l ≡ true) so.lines (l ∷ []) so.clean (clean, tt);
+  parts = so.parts ∙ ap (λ (r : List ℕ). flat_map line so.lines ++ r) (here ∙ sym (joined l [] behind)) ∙ sym (append_assoc (flat_map line so.lines) (flat_map line (l ∷ [])) behind)
+      ∙ ap (λ (r : List ℕ). r ++ behind) (sym (flat_map-append line so.lines (l ∷ [])));
+  read = lines_read-append start so.lines (l ∷ []) ∙ ap (λ (o : Option State). o >>= λ next. lines_read next (l ∷ [])) so.read ∙ ap (λ (o : Option State). o >>= λ next. Some next) e;
+  count = omega (arith, so.count, length-append so.lines (l ∷ []));
+}
+
+-- the number of the line is small
+pub number_small : (bytes rest : List ℕ) (number : ℕ) (st : State) → Progress bytes rest number st → number ≤ length bytes + 1
+number_small bytes rest number st so = omega (arith, so.count, few_lines so.lines, ap length so.parts, length-append (flat_map line so.lines) rest)
+
+-- as far as was read the text goes well
+goes_well : (lines : List (List ℕ)) (bytes rest : List ℕ) (st : State) → AreLines lines → bytes ≡ flat_map line lines ++ rest → lines_read start lines ≡ Some st → GoesWellFor (length lines) bytes
+goes_well lines bytes rest st clean parts e =
+    let h = reached lines st e in
+    let all = completes st.stage st.code st.cert in
+    (lines, clean, refl, (rest, parts), (text st.code st.cert, (st.code, st.cert, h.0.pair, refl), (all.0, all.1 ∙ ap (λ (r : List ℕ). r ++ all.0) h.1)))
+
+goes_well_before : (lines : List (List ℕ)) (bytes rest : List ℕ) (st : State) (m : ℕ) → AreLines lines → bytes ≡ flat_map line lines ++ rest → lines_read start lines ≡ Some st → m ≤ length lines → GoesWellFor m bytes
+goes_well_before lines bytes rest st m clean parts e le =
+    let cut : take m lines ++ drop m lines ≡ lines = take-append-drop m lines in
+    let a = bind_some (lines_read start (take m lines)) (λ (next : State). lines_read next (drop m lines)) st (sym (lines_read-append start (take m lines) (drop m lines)) ∙ ap (lines_read start) cut ∙ e) in
+    let spelled : flat_map line lines ≡ flat_map line (take m lines) ++ flat_map line (drop m lines) = ap (flat_map line) (sym cut) ∙ flat_map-append line (take m lines) (drop m lines) in
+    let here : bytes ≡ flat_map line (take m lines) ++ (flat_map line (drop m lines) ++ rest) =
+    parts ∙ ap (λ (r : List ℕ). r ++ rest) spelled ∙ append_assoc (flat_map line (take m lines)) (flat_map line (drop m lines)) rest in
+    subst (λ (n : ℕ). GoesWellFor n bytes) (length-take-le m lines le)
+    (goes_well (take m lines) bytes (flat_map line (drop m lines) ++ rest) a.0 (All-front (λ l. is_line l ≡ true) (take m lines) (drop m lines) (subst AreLines (sym cut) clean)) here a.1)
+
+-- the lines that a bundle text begins with are read
+read_front : (lines : List (List ℕ)) (whole : List ℕ) → AreLines lines → IsBundleText whole → BeginsWith lines whole → (st : State) × (lines_read start lines ≡ Some st)
+read_front lines whole clean text_of begins =
+    let runs = text_runs text_of.0 text_of.1 text_of.2 in
+    let h = prefix_lines lines runs.lines begins.0 clean runs.clean (sym runs.spelled ∙ sym text_of.3 ∙ begins.1) in
+    let a = bind_some (lines_read start lines) (λ (next : State). lines_read next h.0) (at Ended text_of.0 text_of.1) (sym (lines_read-append start lines h.0) ∙ ap (lines_read start) (sym h.1) ∙ runs.read) in
+    (a.0, a.1)
+
+no_further : (bytes rest : List ℕ) (number : ℕ) (st : State) → Progress bytes rest number st → Stuck st rest → GoesWellFor number bytes → ⊥
+unfolding lines_read
+no_further bytes rest number st so stuck well =
+    let lines = well.0 in
+    let front = read_front lines well.4.0 well.1 well.4.1 well.4.2 in
+    let last = last_line so.lines lines rest well.3.0 so.clean well.1 (well.2 ∙ so.count) (sym so.parts ∙ well.3.1) in
+    let none : line_read st last.0 ≡ None = stuck last.0 well.3.0 last.3 last.2 in
+    let read : lines_read start lines ≡ None =
+    ap (lines_read start) last.1 ∙ lines_read-append start so.lines (last.0 ∷ []) ∙ ap (λ (o : Option State). o >>= λ next. lines_read next (last.0 ∷ [])) so.read ∙ ap (λ (o : Option State). o >>= λ next. Some next) none in
+    let never : ◌≡◌ {A = Option State} (Some front.0) None = sym front.1 ∙ read in
+    absurd (cc)
+
+pub names : (bytes rest : List ℕ) (number : ℕ) (st : State) → Progress bytes rest number st → Stuck st rest → NamesFirst number bytes
+names bytes rest number st so stuck = (
+  omega (arith, so.count),
+  no_further bytes rest number st so stuck,
+  λ m below. goes_well_before so.lines bytes rest st m so.clean so.parts so.read (omega (arith, so.count, below)),
+)
+
+-- a text where reading ends before the last line is no bundle text
+pub no_text : (bytes rest : List ℕ) (number : ℕ) (st : State) → Progress bytes rest number st → Stuck st rest → (rest ≡ [] → st.stage ≡ Ended → ⊥) → IsBundleText bytes → ⊥
+unfolding lines_read
+no_text bytes rest number st so stuck unended text_of =
+    let runs = text_runs text_of.0 text_of.1 text_of.2 in
+    let h = prefix_lines so.lines runs.lines rest so.clean runs.clean (sym runs.spelled ∙ sym text_of.3 ∙ so.parts) in
+    let left : lines_read st h.0 ≡ Some (at Ended text_of.0 text_of.1) =
+    ap (λ (o : Option State). o >>= λ next. lines_read next h.0) (sym so.read) ∙ sym (lines_read-append start so.lines h.0) ∙ ap (lines_read start) (sym h.1) ∙ runs.read in
+    by h.0 (All-back (λ l. is_line l ≡ true) so.lines h.0 (subst AreLines h.1 runs.clean)) left h.2
+  where
+    by : (more : List (List ℕ)) → AreLines more → lines_read st more ≡ Some (at Ended text_of.0 text_of.1) → rest ≡ flat_map line more → ⊥
+    by [] clean left is = let same : st ≡ at Ended text_of.0 text_of.1 = same_some st (at Ended text_of.0 text_of.1) left in unended is (ap (λ (s : State). s.stage) same)
+    by (l ∷ more) clean left is =
+        let a = bind_some (line_read st l) (λ (next : State). lines_read next more) (at Ended text_of.0 text_of.1) left in
+        let none : line_read st l ≡ None = stuck l (flat_map line more) clean.0 (is ∙ append_assoc l (10 ∷ []) (flat_map line more)) in
+        let never : ◌≡◌ {A = Option State} (Some a.0) None = sym a.1 ∙ none in
+        absurd (cc)
+
+-- a text that was read to its end is that of the pair
+pub whole_text : (bytes rest : List ℕ) (number : ℕ) (st : State) → Progress bytes rest number st → rest ≡ [] → st.stage ≡ Ended → IsPair st.code st.cert × (bytes ≡ text st.code st.cert)
+whole_text bytes rest number st so none ended =
+    let h = reached so.lines st so.read in (
+      h.0.pair,
+      so.parts ∙ ap (λ (r : List ℕ). flat_map line so.lines ++ r) none ∙ append-nil (flat_map line so.lines) ∙ sym h.1 ∙ ap (λ (s : Stage). text_at s st.code st.cert) ended,
+    )
+
+-- what a line feed or the end of the bytes cuts off
+pub stuck_at : (st : State) (rest l behind : List ℕ) → is_line l ≡ true → rest ≡ l ++ 10 ∷ behind → line_read st l ≡ None → Stuck st rest
+stuck_at st rest l behind clean here none = λ m left clean_m there. (
+    let same = first_line m l left behind clean_m clean (sym there ∙ here) in
+    ap (line_read st) same.0 ∙ none)
+
+pub some_left : (rest l behind : List ℕ) → rest ≡ l ++ 10 ∷ behind → rest ≡ [] → ⊥
+some_left rest l behind here none = not_nil l behind (sym none ∙ here)
+
+pub stuck_end : (st : State) (rest : List ℕ) → is_line rest ≡ true → Stuck st rest
+stuck_end st rest clean = λ l behind clean_l here. absurd (has_feed l behind (ap is_line (sym here) ∙ clean))
+
+-- ---- texts differ
+
+pub differ : TextsDiffer
+unfolding lines_read read_at
+differ code other_code cert other_cert rest pair other_pair e =
+    let runs = text_runs code cert pair in
+    let others = text_runs other_code other_cert other_pair in
+    let h = prefix_lines others.lines runs.lines rest others.clean runs.clean (sym runs.spelled ∙ e ∙ ap (λ (r : List ℕ). r ++ rest) others.spelled) in
+    let left : lines_read (at Ended other_code other_cert) h.0 ≡ Some (at Ended code cert) =
+    ap (λ (o : Option State). o >>= λ next. lines_read next h.0) (sym others.read) ∙ sym (lines_read-append start others.lines h.0) ∙ ap (lines_read start) (sym h.1) ∙ runs.read in
+    by h.0 left h.2
+  where
+    by : (more : List (List ℕ)) → lines_read (at Ended other_code other_cert) more ≡ Some (at Ended code cert) → rest ≡ flat_map line more → (code ≡ other_code) × (cert ≡ other_cert) × (rest ≡ [])
+    by [] left is =
+        let same : at Ended other_code other_cert ≡ at Ended code cert = same_some (at Ended other_code other_cert) (at Ended code cert) left in
+        (ap (λ (s : State). s.code) (sym same), ap (λ (s : State). s.cert) (sym same), is)
+    by (l ∷ more) left is = absurd (cc)
+
+-- an equal pair has the same text
+pub same_pair : (bytes : List ℕ) (code made : Listing) (cert claimed : Claimed) → made ≡ code → claimed ≡ cert → IsPair code cert × (bytes ≡ text code cert) → IsPair made claimed × (bytes ≡ text made claimed)
+same_pair bytes code made cert claimed e f h =
+    subst (λ (x : Listing). IsPair x claimed × (bytes ≡ text x claimed)) (sym e) (subst (λ (x : Claimed). IsPair code x × (bytes ≡ text code x)) (sym f) h)

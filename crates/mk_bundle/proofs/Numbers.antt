@@ -1,0 +1,121 @@
+-- A number that is printed is read back, and what is read is printed so.
+use Rattle.std.proofs.Common.{◌≡◌, ℕ, zero, suc, ◌+◌, ◌*◌, ◌-◌, ◌^◌, ◌<◌, ◌≤◌, true, false, ◌⊎◌, List, [], ◌∷◌, ◌++◌, length, drop, get_or, Some, None, nat_lt, refl, sym, ap, subst, ◌∙◌, inl, inr, arith, rules}
+use Rattle.std.specs.Prelude.{cond, take_while, decimal, ◌&&◌, ◌==◌, not}
+use Rattle.std.specs.Char.{is_ascii_digit}
+use Rattle.std.specs.Str.{all_ascii_digits}
+use Rattle.std.proofs.lemmas.Bool.{ltb-true, lt-ltb, eqb-true, eq-eqb, and_parts, and_from, cases_Bool, cond-true}
+use Rattle.std.proofs.lemmas.List.{drop_at, append-nil}
+use Rattle.std.proofs.lemmas.List.Sums.{take_while-cons}
+use Rattle.std.proofs.lemmas.Str.Parse.{IsNumeralModel, numerals_by_fold}
+use Rattle.std.proofs.lemmas.Fmt.{digits_decimal, digits_value-decimal, decimal-digits_value, decimal_nonempty, first_decimal, decimal_digit}
+use Rattle.mk_bundle.specs.Parsing.{whole, valued, leads, number_by, number_at, number_of}
+use Rattle.mk_bundle.proofs.Steps.{bind_some, same_some, passed, whole_found}
+
+-- what stands behind a number doesn't go on with it
+abbrev pub EndsNumber : List ℕ → Type 0
+EndsNumber [] = Unit {0}
+EndsNumber (b ∷ bs) = is_ascii_digit b ≡ false
+
+pub own : IsNumeralModel (λ ds. all_ascii_digits ds ≡ true) (valued 0)
+unfolding valued
+own = numerals_by_fold _ (search rules) valued (search rules)
+
+-- the digits at the front
+front : (bytes : List ℕ) → bytes ≡ take_while is_ascii_digit bytes ++ drop (length (take_while is_ascii_digit bytes)) bytes
+front [] = refl
+front (b ∷ bs) = elim (cases_Bool (is_ascii_digit b)) [
+  | inl held ↦ rw (take_while-cons is_ascii_digit b bs, held) (ap (λ (t : List ℕ). b ∷ t) (front bs))
+  | inr failed ↦ rw (take_while-cons is_ascii_digit b bs, failed) refl
+]
+
+all_front : (bytes : List ℕ) → all_ascii_digits (take_while is_ascii_digit bytes) ≡ true
+all_front [] = refl
+all_front (b ∷ bs) = elim (cases_Bool (is_ascii_digit b)) [
+  | inl held ↦ rw (take_while-cons is_ascii_digit b bs, held) (and_from (is_ascii_digit b) (all_ascii_digits (take_while is_ascii_digit bs)) held (all_front bs))
+  | inr failed ↦ rw (take_while-cons is_ascii_digit b bs, failed) refl
+]
+
+front_is : (ds rest : List ℕ) → all_ascii_digits ds ≡ true → EndsNumber rest → take_while is_ascii_digit (ds ++ rest) ≡ ds
+front_is [] [] all ends = refl
+front_is [] (b ∷ bs) all ends = rw (take_while-cons is_ascii_digit b bs, ends) refl
+front_is (d ∷ ds) rest all ends =
+    let parts = and_parts (is_ascii_digit d) (all_ascii_digits ds) all in
+    take_while-cons is_ascii_digit d (ds ++ rest) ∙ cond-true (is_ascii_digit d) (d ∷ take_while is_ascii_digit (ds ++ rest)) [] parts.0 ∙ ap (λ (t : List ℕ). d ∷ t) (front_is ds rest parts.1 ends)
+
+-- digits make at least what is before them
+pub valued-ge : (n : ℕ) (ds : List ℕ) → n ≤ valued n ds
+unfolding valued
+valued-ge n [] = omega arith
+valued-ge n (c ∷ cs) = omega (arith, valued-ge (n * 10 + (c - 48)) cs)
+
+leads_parts : (ds : List ℕ) → leads ds ≡ true → (0 < length ds) × (get_or ds 0 0 ≡ 48 → length ds ≡ 1)
+unfolding leads
+leads_parts [] e = absurd cc
+leads_parts (d ∷ []) e = (omega arith, λ z. refl)
+leads_parts (d ∷ f ∷ ds) e = (omega arith, λ z. (let never : not (d == 48) ≡ false = ap not (eq-eqb d 48 z) in absurd (cc)))
+
+leads_from : (ds : List ℕ) → 0 < length ds → (length ds ≡ 1) ⊎ (48 < get_or ds 0 0) → leads ds ≡ true
+unfolding leads
+leads_from [] some h = absurd (omega arith)
+leads_from (d ∷ []) some h = refl
+leads_from (d ∷ f ∷ ds) some h = elim h [
+  | inl one ↦ absurd (omega (arith, one))
+  | inr high ↦ elim (cases_Bool (d == 48)) [ inl is ↦ absurd (omega (arith, high, eqb-true d 48 is)) | inr isnt ↦ ap not isnt ]
+]
+
+leads_decimal : (n : ℕ) → n < 2 ^ 32 → leads (decimal n) ≡ true
+leads_decimal zero small = leads_from (decimal 0) (decimal_nonempty 0 (omega arith)) (inl (ap length (decimal_digit 0 (omega arith))))
+leads_decimal (suc n) small = leads_from (decimal (suc n)) (decimal_nonempty (suc n) (omega arith)) (inr (first_decimal (suc n) (omega arith) (omega arith)))
+
+number_by_found : (ds : List ℕ) (n : ℕ) → all_ascii_digits ds ≡ true → number_by ds ≡ Some n → (ds ≡ decimal n) × (n < 2 ^ 32)
+unfolding number_by
+number_by_found ds n all e =
+    let h = passed (leads ds && nat_lt (valued 0 ds) (2 ^ 32)) (Some (valued 0 ds)) n e in
+    let parts = and_parts (leads ds) (nat_lt (valued 0 ds) (2 ^ 32)) h.0 in
+    let small : valued 0 ds < 2 ^ 32 = ltb-true (valued 0 ds) (2 ^ 32) parts.1 in
+    let led = leads_parts ds parts.0 in
+    let is : valued 0 ds ≡ n = same_some (valued 0 ds) n h.1 in
+    let spelled = decimal-digits_value own ds all led.0 led.1 (omega (arith, small)) in
+    (sym spelled ∙ ap decimal is, subst (λ (m : ℕ). m < 2 ^ 32) is small)
+
+number_by_again : (n : ℕ) → n < 2 ^ 32 → number_by (decimal n) ≡ Some n
+unfolding number_by
+number_by_again n small =
+    let is : valued 0 (decimal n) ≡ n = digits_value-decimal own n (omega arith) in
+    let below : nat_lt (valued 0 (decimal n)) (2 ^ 32) ≡ true = rw is (lt-ltb n (2 ^ 32) small) in
+    ap (λ b. cond b (Some (valued 0 (decimal n))) None) (and_from (leads (decimal n)) (nat_lt (valued 0 (decimal n)) (2 ^ 32)) (leads_decimal n small) below)
+    ∙ ap (λ (m : ℕ). Some m) is
+
+-- what is read at the front is a number's text
+pub number_found : (bytes : List ℕ) (x : ℕ × List ℕ) → number_at bytes ≡ Some x → (bytes ≡ decimal x.0 ++ x.1) × (x.0 < 2 ^ 32)
+unfolding number_at
+number_found bytes x e =
+    let ds = take_while is_ascii_digit bytes in
+    let rest = drop (length (take_while is_ascii_digit bytes)) bytes in
+    let h = bind_some (number_by ds) (λ (n : ℕ). Some (n, rest)) x e in
+    let is : (h.0, rest) ≡ x = same_some (h.0, rest) x h.2 in
+    let found = number_by_found ds h.0 (all_front bytes) h.1 in
+    let here : bytes ≡ decimal h.0 ++ rest = front bytes ∙ ap (λ (d : List ℕ). d ++ rest) found.0 in
+    (here ∙ ap (λ (y : ℕ × List ℕ). decimal y.0 ++ y.1) is, subst (λ (m : ℕ). m < 2 ^ 32) (ap (λ (y : ℕ × List ℕ). y.0) is) found.1)
+
+-- and a number's text is read back
+pub number_again : (n : ℕ) (rest : List ℕ) → n < 2 ^ 32 → EndsNumber rest → number_at (decimal n ++ rest) ≡ Some (n, rest)
+unfolding number_at
+number_again n rest small ends =
+    let taken : take_while is_ascii_digit (decimal n ++ rest) ≡ decimal n = front_is (decimal n) rest (digits_decimal own n (omega arith)) ends in
+    let left : drop (length (decimal n)) (decimal n ++ rest) ≡ rest = drop_at (decimal n) rest (length (decimal n)) refl in
+    rw (taken, number_by_again n small) (ap (λ (r : List ℕ). Some (n, r)) left)
+
+pub number_of_found : (bytes : List ℕ) (n : ℕ) → number_of bytes ≡ Some n → (bytes ≡ decimal n) × (n < 2 ^ 32)
+unfolding number_of
+number_of_found bytes n e =
+    let h = bind_some (number_at bytes) (λ (x : ℕ × List ℕ). whole x) n e in
+    let w = whole_found h.0 n h.2 in
+    let found = number_found bytes h.0 h.1 in
+    (found.0 ∙ ap (λ (m : ℕ). decimal m ++ h.0.1) w.0 ∙ ap (λ (r : List ℕ). decimal n ++ r) w.1 ∙ append-nil (decimal n), subst (λ (m : ℕ). m < 2 ^ 32) w.0 found.1)
+
+pub number_of_again : (n : ℕ) → n < 2 ^ 32 → number_of (decimal n) ≡ Some n
+unfolding number_of whole
+number_of_again n small =
+    let h : number_at (decimal n) ≡ Some (n, []) = ap number_at (sym (append-nil (decimal n))) ∙ number_again n [] small tt in
+    rw h refl

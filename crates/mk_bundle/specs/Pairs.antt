@@ -1,0 +1,79 @@
+-- Which pairs have a text, which texts are those of a pair, and where a text goes wrong.
+use Rattle.std.specs.Prelude.{◌≡◌, ℕ, ◌^◌, ◌≤◌, ◌<◌, ◌==◌, Bool, true, false, List, [], ◌∷◌, ◌++◌, length, flat_map, if◌then◌else◌}
+use Rattle.std.specs.List.{AllByRecursion}
+use Rattle.mk_field.specs.declared.map.AddMap.{AddMap}
+use Rattle.mk_ssa.specs.declared.Operand.{Operand}
+use Rattle.mk_ssa.specs.declared.Operand.TheVariants.{Secret, Public, Block}
+use Rattle.mk_ssa.specs.declared.Op.{Op}
+use Rattle.mk_ssa.specs.declared.Op.TheVariants.{Const, PubAdd, PubMul, PubSq, PubMap, Lift, Add, AddPub, Scale, Sq, Map, Mul, Refresh}
+use Rattle.mk_code.specs.Listing.{Listing, IsListing}
+use Rattle.mk_rules.specs.Claimed.{Claimed}
+use Rattle.mk_bundle.specs.Words.{line}
+use Rattle.mk_bundle.specs.Text.{text}
+
+-- the number of an operand has 32 bits, whatever it stands for
+abbrev pub OperandFits : Operand → Type 0
+OperandFits (Secret number) = number < 2 ^ 32
+OperandFits (Public number) = number < 2 ^ 32
+OperandFits (Block number) = number < 2 ^ 32
+
+-- so has the number of a map, and a constant is a byte
+abbrev pub OpFits : Op → Type 0
+OpFits (Const value) = value < 256
+OpFits (PubAdd left right) = OperandFits left × OperandFits right
+OpFits (PubMul left right) = OperandFits left × OperandFits right
+OpFits (PubSq arg) = OperandFits arg
+OpFits (PubMap map arg) = (map < 2 ^ 32) × OperandFits arg
+OpFits (Lift arg) = OperandFits arg
+OpFits (Add left right) = OperandFits left × OperandFits right
+OpFits (AddPub left right) = OperandFits left × OperandFits right
+OpFits (Scale left right) = OperandFits left × OperandFits right
+OpFits (Sq arg) = OperandFits arg
+OpFits (Map map arg) = (map < 2 ^ 32) × OperandFits arg
+OpFits (Mul left right) = OperandFits left × OperandFits right
+OpFits (Refresh arg) = OperandFits arg
+
+-- a map has the images of eight bits, which are bytes
+abbrev pub MapFits : AddMap → Type 0
+MapFits map = (length map.images ≡ 8) × AllByRecursion (λ b. b < 256) map.images
+
+-- a code that fits together and a certificate of any blocks and claims, within the limits
+pub record IsPair (code : Listing) (cert : Claimed) : Type 0 where
+  pub listing : IsListing code
+  pub maps : AllByRecursion MapFits code.maps
+  pub blocks : AllByRecursion OpFits cert.blocks
+  pub claims : AllByRecursion OperandFits cert.claims
+  pub few_blocks : length cert.blocks ≤ 131072
+  pub few_claims : length cert.claims ≤ 65536
+
+-- the text of a pair
+abbrev pub IsBundleText : List ℕ → Type 0
+IsBundleText bytes = (code : Listing) × (cert : Claimed) × IsPair code cert × (bytes ≡ text code cert)
+
+-- no line feed stands in these bytes
+abbrev pub is_line : List ℕ → Bool
+is_line [] = true
+is_line (b ∷ bs) = if b == 10 then false else is_line bs
+
+abbrev pub AreLines : List (List ℕ) → Type 0
+AreLines lines = AllByRecursion (λ l. is_line l ≡ true) lines
+
+-- the bytes begin with these lines, each of which is ended by a line feed
+abbrev pub BeginsWith : List (List ℕ) → List ℕ → Type 0
+BeginsWith lines bytes = (rest : List ℕ) × (bytes ≡ flat_map line lines ++ rest)
+
+-- the bytes have n lines that are ended by line feeds, and some bundle text begins with them
+abbrev pub GoesWellFor : ℕ → List ℕ → Type 0
+GoesWellFor n bytes =
+    (lines : List (List ℕ)) × AreLines lines × (length lines ≡ n) × BeginsWith lines bytes
+    × ((whole : List ℕ) × IsBundleText whole × BeginsWith lines whole)
+
+-- n is the number of the first line, counted from 1, such that no bundle text begins with the lines up to it
+abbrev pub NamesFirst : ℕ → List ℕ → Type 0
+NamesFirst n bytes = (1 ≤ n) × (GoesWellFor n bytes → ⊥) × ((m : ℕ) → m < n → GoesWellFor m bytes)
+
+-- different pairs have different texts, and no bundle text is a proper front of another
+abbrev pub TextsDiffer : Type 0
+TextsDiffer = (code other_code : Listing) (cert other_cert : Claimed) (rest : List ℕ)
+    → IsPair code cert → IsPair other_code other_cert → text code cert ≡ text other_code other_cert ++ rest
+    → (code ≡ other_code) × (cert ≡ other_cert) × (rest ≡ [])

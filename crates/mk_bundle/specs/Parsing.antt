@@ -1,0 +1,188 @@
+-- Reading the words of a line from its front on, as lists.
+use Rattle.std.specs.Prelude.{◌≡◌, ℕ, zero, suc, ◌+◌, ◌-◌, ◌*◌, ◌^◌, ◌==◌, Bool, true, false, ◌&&◌, not, List, [], ◌∷◌, length, drop, take_while, Option, Some, None, nat_lt, bytes_eq, codes, if◌then◌else◌}
+use Rattle.std.specs.Char.{is_ascii_digit}
+use Rattle.mk_field.specs.declared.map.AddMap.{AddMap}
+use Rattle.mk_ssa.specs.declared.Operand.{Operand}
+use Rattle.mk_ssa.specs.declared.Operand.TheVariants.{Secret, Public, Block}
+use Rattle.mk_ssa.specs.declared.Op.{Op}
+use Rattle.mk_ssa.specs.declared.Op.TheVariants as op
+use Rattle.mk_code.specs.declared.instr.Instr.{Instr}
+use Rattle.mk_code.specs.declared.instr.Instr.TheVariants as instr
+
+-- what was read is read on, and what was not read is not
+infixl 10 ◌>>=◌
+abbrev pub ◌>>=◌ : {A B : Type 0} → Option A → (A → Option B) → Option B
+(Some x) >>= f = f x
+None >>= f = None
+
+-- what a function returned, seen by view, is what reading gives
+abbrev pub Tells : {X Y : Type 0} → (X → Y) → Option X → Option Y → Type 0
+Tells view (Some x) read = read ≡ Some (view x)
+Tells view None read = read ≡ None
+
+-- the bytes behind this word, which stands at the front
+unfoldable pub after : List ℕ → List ℕ → Option (List ℕ)
+after [] bytes = Some bytes
+after (w ∷ ws) [] = None
+after (w ∷ ws) (b ∷ bs) = if w == b then after ws bs else None
+
+-- what was read, where nothing stands behind it
+unfoldable pub whole : {A : Type 0} → A × List ℕ → Option A
+whole read = if nat_lt (length read.1) 1 then Some read.0 else None
+
+-- the number that digits make, behind those that make n
+unfoldable pub valued : ℕ → List ℕ → ℕ
+valued n [] = n
+valued n (c ∷ cs) = valued (n * 10 + (c - 48)) cs
+
+-- no leading zero
+unfoldable pub leads : List ℕ → Bool
+leads [] = false
+leads (d ∷ []) = true
+leads (d ∷ e ∷ ds) = not (d == 48)
+
+-- the number of these digits, where it is below 2^32 and has no leading zero
+unfoldable pub number_by : List ℕ → Option ℕ
+number_by digits = if leads digits && nat_lt (valued 0 digits) (2 ^ 32) then Some (valued 0 digits) else None
+
+-- the number at the front, which all digits there belong to
+unfoldable pub number_at : List ℕ → Option (ℕ × List ℕ)
+number_at bytes = do
+  n ← number_by (take_while is_ascii_digit bytes)
+  Some (n, drop (length (take_while is_ascii_digit bytes)) bytes)
+
+-- a number and nothing behind it
+unfoldable pub number_of : List ℕ → Option ℕ
+number_of bytes = do
+  n ← number_at bytes
+  whole n
+
+-- the value of a lower-case hexadecimal digit
+unfoldable pub hex_value : ℕ → Option ℕ
+hex_value c =
+    if nat_lt c 48 then None else (
+    if nat_lt c 58 then Some (c - 48) else (
+    if nat_lt c 97 then None else (
+    if nat_lt c 103 then Some (c - 87) else None)))
+
+-- an element at the front, as two digits
+unfoldable pub hex_at : List ℕ → Option (ℕ × List ℕ)
+hex_at [] = None
+hex_at (c ∷ []) = None
+hex_at (c ∷ d ∷ bs) = do
+  high ← hex_value c
+  low ← hex_value d
+  Some (high * 16 + low, bs)
+
+unfoldable pub hex_of : List ℕ → Option ℕ
+hex_of bytes = do
+  value ← hex_at bytes
+  whole value
+
+-- so many elements at the front
+unfoldable pub images_at : ℕ → List ℕ → Option (List ℕ × List ℕ)
+images_at zero bytes = Some ([], bytes)
+images_at (suc n) bytes = do
+  first ← hex_at bytes
+  others ← images_at n first.1
+  Some (first.0 ∷ others.0, others.1)
+
+-- a map
+unfoldable pub map_of : List ℕ → Option AddMap
+map_of bytes = do
+  images ← images_at 8 bytes
+  images ← whole images
+  Some (record { images = images })
+
+-- the operand of the kind of this letter, before which the number stands
+unfoldable pub operand_by : ℕ → ℕ → Option Operand
+operand_by kind number =
+    if kind == 115 then Some (Secret number) else (
+    if kind == 112 then Some (Public number) else (
+    if kind == 98 then Some (Block number) else None))
+
+unfoldable pub operand_at : List ℕ → Option (Operand × List ℕ)
+operand_at [] = None
+operand_at (kind ∷ bs) = do
+  number ← number_at bs
+  operand ← operand_by kind number.0
+  Some (operand, number.1)
+
+unfoldable pub operand_of : List ℕ → Option Operand
+operand_of bytes = do
+  operand ← operand_at bytes
+  whole operand
+
+-- two operands
+unfoldable pub pair_of : List ℕ → Option (Operand × Operand)
+pair_of bytes = do
+  left ← operand_at bytes
+  rest ← after (codes " ") left.1
+  right ← operand_of rest
+  Some (left.0, right)
+
+-- the number of a map and an operand
+unfoldable pub mapped_of : List ℕ → Option (ℕ × Operand)
+mapped_of bytes = do
+  map ← number_at bytes
+  rest ← after (codes " ") map.1
+  arg ← operand_of rest
+  Some (map.0, arg)
+
+-- two numbers
+unfoldable pub numbers_of : List ℕ → Option (ℕ × ℕ)
+numbers_of bytes = do
+  left ← number_at bytes
+  rest ← after (codes " ") left.1
+  right ← number_of rest
+  Some (left.0, right)
+
+-- what stands behind a word is read by f, and where the word does not stand there, it is otherwise
+abbrev pub behind : {A : Type 0} → Option (List ℕ) → (List ℕ → Option A) → Option A → Option A
+behind (Some rest) f otherwise = f rest
+behind None f otherwise = otherwise
+
+-- a public block
+unfoldable pub public_op_of : List ℕ → Option Op
+public_op_of words =
+    behind (after (codes "const ") words) (λ rest. hex_of rest >>= λ value. Some (op.Const value)) (
+    behind (after (codes "padd ") words) (λ rest. pair_of rest >>= λ p. Some (op.PubAdd p.0 p.1)) (
+    behind (after (codes "pmul ") words) (λ rest. pair_of rest >>= λ p. Some (op.PubMul p.0 p.1)) (
+    behind (after (codes "psq ") words) (λ rest. operand_of rest >>= λ arg. Some (op.PubSq arg)) (
+    behind (after (codes "pmap ") words) (λ rest. mapped_of rest >>= λ m. Some (op.PubMap m.0 m.1)) None))))
+
+-- a shared block of one operand
+unfoldable pub single_op_of : List ℕ → Option Op
+single_op_of words =
+    behind (after (codes "lift ") words) (λ rest. operand_of rest >>= λ arg. Some (op.Lift arg)) (
+    behind (after (codes "sq ") words) (λ rest. operand_of rest >>= λ arg. Some (op.Sq arg)) (
+    behind (after (codes "map ") words) (λ rest. mapped_of rest >>= λ m. Some (op.Map m.0 m.1)) (
+    behind (after (codes "refresh ") words) (λ rest. operand_of rest >>= λ arg. Some (op.Refresh arg)) None)))
+
+-- a shared block of two operands
+unfoldable pub pair_op_of : List ℕ → Option Op
+pair_op_of words =
+    behind (after (codes "add ") words) (λ rest. pair_of rest >>= λ p. Some (op.Add p.0 p.1)) (
+    behind (after (codes "addp ") words) (λ rest. pair_of rest >>= λ p. Some (op.AddPub p.0 p.1)) (
+    behind (after (codes "scale ") words) (λ rest. pair_of rest >>= λ p. Some (op.Scale p.0 p.1)) (
+    behind (after (codes "mul ") words) (λ rest. pair_of rest >>= λ p. Some (op.Mul p.0 p.1)) None)))
+
+-- this, and where there is none the other
+abbrev pub or_else : {A : Type 0} → Option A → Option A → Option A
+or_else (Some x) other = Some x
+or_else None other = other
+
+-- a block: what stands in its line behind `block `
+unfoldable pub op_of : List ℕ → Option Op
+op_of words = or_else (public_op_of words) (or_else (single_op_of words) (pair_op_of words))
+
+-- an instruction: its line
+unfoldable pub instr_of : List ℕ → Option Instr
+instr_of words =
+    if bytes_eq words (codes "rnd") then Some instr.Rnd else (
+    behind (after (codes "const ") words) (λ rest. hex_of rest >>= λ value. Some (instr.Const value)) (
+    behind (after (codes "copy ") words) (λ rest. number_of rest >>= λ from. Some (instr.Copy from)) (
+    behind (after (codes "add ") words) (λ rest. numbers_of rest >>= λ p. Some (instr.Add p.0 p.1)) (
+    behind (after (codes "mul ") words) (λ rest. numbers_of rest >>= λ p. Some (instr.Mul p.0 p.1)) (
+    behind (after (codes "sq ") words) (λ rest. number_of rest >>= λ from. Some (instr.Sq from)) (
+    behind (after (codes "map ") words) (λ rest. numbers_of rest >>= λ p. Some (instr.Map p.0 p.1)) None))))))

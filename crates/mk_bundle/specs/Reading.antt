@@ -1,0 +1,185 @@
+-- Reading a bundle text line by line, as lists.
+use Rattle.std.specs.Prelude.{◌≡◌, ℕ, zero, suc, ◌+◌, ◌*◌, ◌≤◌, Bool, true, false, ◌&&◌, List, [], ◌∷◌, ◌++◌, length, Option, Some, None, Result, Ok, Err, nat_lt, bytes_eq, codes, if◌then◌else◌}
+use Rattle.mk_field.specs.declared.field.FieldId.{FieldId}
+use Rattle.mk_field.specs.declared.field.FieldId.TheVariants.{Gf2, Gf256}
+use Rattle.mk_field.specs.Field.{size}
+use Rattle.mk_code.specs.declared.instr.Instr.{Instr}
+use Rattle.mk_code.specs.declared.instr.Instr.TheVariants.{Rnd, Const, Copy, Add, Mul, Sq, Map}
+use Rattle.mk_code.specs.Listing.{Listing, trace_len}
+use Rattle.mk_rules.specs.Claimed.{Claimed}
+use Rattle.mk_bundle.specs.declared.draft.Draft.{Draft}
+use Rattle.mk_bundle.specs.declared.draft.Stage.{Stage}
+use Rattle.mk_bundle.specs.declared.draft.Stage.TheVariants.{Version, Field, Order, Secrets, Publics, Upper, Lower, Ended}
+use Rattle.mk_bundle.specs.declared.draft.LineRefusal.{LineRefusal}
+use Rattle.mk_bundle.specs.declared.draft.LineRefusal.TheVariants as refusals
+use Rattle.mk_bundle.specs.Parsing.{◌>>=◌, after, whole, number_at, number_of, map_of, operand_of, op_of, instr_of, behind}
+
+-- what was read so far: where the next line stands, and the pair that the text has if only the lines
+-- that must come do come
+pub record State : Type 0 where
+  pub stage : Stage
+  pub code : Listing
+  pub cert : Claimed
+
+abbrev pub start : State
+start = record {
+  stage = Version;
+  code = record { field = Gf2; order = 1; secrets = 0; publics = 0; maps = []; instrs = []; outs = [] };
+  cert = record { blocks = []; claims = [] };
+}
+
+-- a draft, as what was read
+abbrev pub state_of : Draft → State
+state_of d = record {
+  stage = d.stage;
+  code = record { field = d.field; order = d.order; secrets = d.secrets; publics = d.publics; maps = d.maps; instrs = d.instrs; outs = d.outs };
+  cert = d.cert;
+}
+
+-- what a step that changes the draft returned is what reading gives, unless memory ran out
+abbrev pub Steps : Result (Unit {0}) LineRefusal → State → Option State → Type 0
+Steps (Ok done) new read = read ≡ Some new
+Steps (Err refusals.Form) new read = read ≡ None
+Steps (Err refusals.Memory) new read = Unit {0}
+
+unfoldable pub version_line : State → List ℕ → Option State
+version_line st line = if bytes_eq line (codes "mask 1") then Some (record st { stage = Field }) else None
+
+unfoldable pub field_line_of : List ℕ → Option FieldId
+field_line_of line =
+    if bytes_eq line (codes "field gf2") then Some Gf2 else (
+    if bytes_eq line (codes "field gf256") then Some Gf256 else None)
+
+unfoldable pub field_read : State → List ℕ → Option State
+field_read st line = do
+  field ← field_line_of line
+  Some (record st { stage = Order; code = record st.code { field = field } })
+
+-- the number in a line that begins so, at most `most`
+unfoldable pub headed : List ℕ → ℕ → List ℕ → Option ℕ
+headed name most line = do
+  rest ← after name line
+  n ← number_of rest
+  if nat_lt most n then None else Some n
+
+unfoldable pub order_read : State → List ℕ → Option State
+order_read st line = do
+  n ← headed (codes "order ") 8 line
+  if nat_lt n 1 then None else Some (record st { stage = Secrets; code = record st.code { order = n } })
+
+unfoldable pub secrets_read : State → List ℕ → Option State
+secrets_read st line = do
+  n ← headed (codes "secrets ") 65536 line
+  Some (record st { stage = Publics; code = record st.code { secrets = n } })
+
+unfoldable pub publics_read : State → List ℕ → Option State
+publics_read st line = do
+  n ← headed (codes "publics ") 65536 line
+  Some (record st { stage = Upper; code = record st.code { publics = n } })
+
+-- there are maps on bytes only
+unfoldable pub has_maps : FieldId → Bool
+has_maps Gf2 = false
+has_maps Gf256 = true
+
+-- a map may stand here: before blocks and claims
+unfoldable pub may_map : State → Bool
+may_map st = has_maps st.code.field && nat_lt (length st.cert.blocks) 1 && nat_lt (length st.cert.claims) 1 && nat_lt (length st.code.maps) 32768
+
+unfoldable pub map_read : State → List ℕ → Option State
+map_read st words = do
+  map ← map_of words
+  if may_map st then Some (record st { code = record st.code { maps = st.code.maps ++ map ∷ [] } }) else None
+
+-- a block may stand here: before claims
+unfoldable pub may_block : State → Bool
+may_block st = nat_lt (length st.cert.claims) 1 && nat_lt (length st.cert.blocks) 131072
+
+unfoldable pub block_read : State → List ℕ → Option State
+block_read st words = do
+  op ← op_of words
+  if may_block st then Some (record st { cert = record st.cert { blocks = st.cert.blocks ++ op ∷ [] } }) else None
+
+unfoldable pub claim_read : State → List ℕ → Option State
+claim_read st words = do
+  value ← operand_of words
+  if nat_lt (length st.cert.claims) 65536 then Some (record st { cert = record st.cert { claims = st.cert.claims ++ value ∷ [] } }) else None
+
+unfoldable pub code_read : State → List ℕ → Option State
+code_read st line = if bytes_eq line (codes "code") then Some (record st { stage = Lower }) else None
+
+unfoldable pub upper_read : State → List ℕ → Option State
+upper_read st line =
+    behind (after (codes "map ") line) (map_read st) (
+    behind (after (codes "block ") line) (block_read st) (
+    behind (after (codes "claim ") line) (claim_read st) (code_read st line)))
+
+-- the instruction fits behind `len` entries
+unfoldable pub fits_at : FieldId → ℕ → ℕ → Instr → Bool
+fits_at field maps len Rnd = true
+fits_at field maps len (Const value) = nat_lt value (size field)
+fits_at field maps len (Copy from) = nat_lt from len
+fits_at field maps len (Add left right) = nat_lt left len && nat_lt right len
+fits_at field maps len (Mul left right) = nat_lt left len && nat_lt right len
+fits_at field maps len (Sq from) = nat_lt from len
+fits_at field maps len (Map map from) = nat_lt map maps && nat_lt from len
+
+-- an instruction may stand here: before outputs
+unfoldable pub may_instr : State → Instr → Bool
+may_instr st i = nat_lt (length st.code.outs) 1 && nat_lt (length st.code.instrs) 8388608 && fits_at st.code.field (length st.code.maps) (trace_len st.code) i
+
+unfoldable pub instr_read : State → List ℕ → Option State
+instr_read st line = do
+  i ← instr_of line
+  if may_instr st i then Some (record st { code = record st.code { instrs = st.code.instrs ++ i ∷ [] } }) else None
+
+-- so many places below `len`, a space before each, and nothing behind them
+unfoldable pub places_of : ℕ → ℕ → List ℕ → Option (List ℕ)
+places_of zero len bytes = whole ([], bytes)
+places_of (suc n) len bytes = do
+  rest ← after (codes " ") bytes
+  place ← number_at rest
+  if nat_lt place.0 len then (places_of n len place.1 >>= λ places. Some (place.0 ∷ places)) else None
+
+unfoldable pub out_read : State → List ℕ → Option State
+out_read st words =
+    if nat_lt (length st.code.outs) (65536 * (st.code.order + 1))
+    then (places_of (st.code.order + 1) (trace_len st.code) words >>= λ places. Some (record st { code = record st.code { outs = st.code.outs ++ places } }))
+    else None
+
+unfoldable pub lower_read : State → List ℕ → Option State
+lower_read st line =
+    behind (after (codes "out") line) (out_read st) (
+    if bytes_eq line (codes "end") then Some (record st { stage = Ended }) else instr_read st line)
+
+-- one line more
+unfoldable pub read_at : Stage → State → List ℕ → Option State
+read_at Version st line = version_line st line
+read_at Field st line = field_read st line
+read_at Order st line = order_read st line
+read_at Secrets st line = secrets_read st line
+read_at Publics st line = publics_read st line
+read_at Upper st line = upper_read st line
+read_at Lower st line = lower_read st line
+read_at Ended st line = None
+
+abbrev pub line_read : State → List ℕ → Option State
+line_read st line = read_at st.stage st line
+
+-- these lines more
+unfoldable pub lines_read : State → List (List ℕ) → Option State
+lines_read st [] = Some st
+lines_read st (line ∷ lines) = line_read st line >>= λ next. lines_read next lines
+
+-- bounds that a count of entries needs
+pub record HasBounds (code : Listing) : Type 0 where
+  pub order : code.order ≤ 8
+  pub secrets : code.secrets ≤ 65536
+  pub publics : code.publics ≤ 65536
+  pub few : length code.instrs ≤ 8388608
+
+-- what a function that appends places returned is what reading gives, unless memory ran out
+abbrev pub Appends : Result (Unit {0}) LineRefusal → List ℕ → List ℕ → Option (List ℕ) → Type 0
+Appends (Ok done) old new read = (places : List ℕ) × (read ≡ Some places) × (new ≡ old ++ places)
+Appends (Err refusals.Form) old new read = read ≡ None
+Appends (Err refusals.Memory) old new read = Unit {0}

@@ -1,0 +1,86 @@
+ghost use Rattle.std.specs.Prelude.{◌≡◌, ◌≤◌, ◌==◌, ℕ, Err, not, length, take_while, IfOk};
+ghost use Rattle.mk_bundle.specs.declared.read.BundleRefusal.TheVariants.{Form};
+ghost use Rattle.mk_bundle.specs.Text.{text as text_of};
+ghost use Rattle.mk_bundle.specs.Pairs.{IsPair, IsBundleText, NamesFirst, TextsDiffer};
+ghost use Rattle.mk_bundle.specs.Cutting.{Cuts};
+
+use crate::draft::{LineRefusal, bundle_of, empty_draft, is_ended, read_line};
+use mk_rules::Bundle;
+use std::alloc::Global;
+use thiserror::Error;
+
+/// The most bytes of a text that is read.
+pub const MOST_BYTES: usize = 268_435_456;
+
+/// Why a text is not read.
+#[derive(Clone, Copy, Debug, PartialEq, Eq, Error)]
+pub enum BundleRefusal {
+    /// No bundle has this text, and none has a text that begins with the lines up to this one,
+    /// counted from 1.
+    #[error("line {line} doesn't go on with a bundle text")]
+    Form { line: u32 },
+    /// Memory was wanted and not found.
+    #[error("out of memory")]
+    Memory,
+}
+
+/// How many bytes stand before the first line feed.
+fn line_len(text: &[u8]) -> usize
+    ensures count { result ≡ length (take_while (λ b. not (b == 10)) text.now) }
+    ensures within { result ≤ length text.now }
+{
+    text.iter().take_while(|byte| **byte != b'\n').count()
+}
+
+/// The first line, and the bytes behind its line feed.
+fn cut(text: &[u8]) -> Option<(&[u8], &[u8])>
+    ensures { Cuts result text.now }
+{
+    let (line, behind) = text.split_at(line_len(text));
+    match behind {
+        [] => None,
+        [_, rest @ ..] => Some((line, rest)),
+    }
+}
+
+/// The bundle whose text this is.
+pub fn read_bundle(alloc: Global, text: &[u8]) -> Result<Bundle, BundleRefusal>
+    requires { length text.now ≤ 268435456 }
+    // What is read has this text.
+    ensures ok { IfOk result (λ b. IsPair b.code b.cert × (text.now ≡ text_of b.code b.cert)) }
+
+    // What is refused for its form is the text of no bundle.
+    ensures only { (line : ℕ) → result ≡ Err (Form line) → IsBundleText text.now → ⊥ }
+
+    // The line is the first behind which no bundle text goes on.
+    ensures form { (line : ℕ) → result ≡ Err (Form line) → NamesFirst line text.now }
+{
+    let mut draft = empty_draft(alloc);
+    let mut rest = text;
+    let mut number = 1;
+    while let Some((line, behind)) = cut(rest) {
+        match read_line(&mut draft, line) {
+            Ok(()) => {}
+            Err(LineRefusal::Form) => return Err(BundleRefusal::Form { line: number }),
+            Err(LineRefusal::Memory) => return Err(BundleRefusal::Memory),
+        }
+        rest = behind;
+        number += 1;
+    }
+    if !rest.is_empty() {
+        return Err(BundleRefusal::Form { line: number });
+    }
+    if !is_ended(&draft) {
+        return Err(BundleRefusal::Form { line: number });
+    }
+    Ok(bundle_of(draft))
+}
+
+/// The law of texts: different pairs have different texts, and none is a proper front of another. It
+/// does nothing.
+pub fn texts_differ()
+    ensures { TextsDiffer }
+{}
+
+#[cfg(test)]
+mod tests;
