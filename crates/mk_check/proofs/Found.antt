@@ -1,12 +1,11 @@
 -- The block that an instruction belongs to, where the blocks are sums, and that its places are small.
-use Rattle.std.proofs.Common.{◌≡◌, ℕ, zero, suc, ◌+◌, ◌*◌, ◌/◌, ◌%◌, ◌^◌, ◌<◌, ◌≤◌, Bool, List, [], ◌∷◌, ◌++◌, length, take, get_or, slice_get, nat_lt, true, false, Option, Some, None, refl, sym, ◌∙◌, ap, subst, arith}
+use Rattle.std.proofs.Common.{◌≡◌, ℕ, zero, suc, ◌+◌, ◌*◌, ◌/◌, ◌%◌, ◌^◌, ◌<◌, ◌≤◌, List, [], ◌∷◌, length, take, get_or, slice_get, nat_lt, true, false, Some, None, refl, sym, ◌∙◌, ap, subst, arith}
 use Rattle.std.specs.List.{range_with_len}
 use Rattle.std.proofs.lemmas.Bool.{ltb-true, ltb-false}
 use Rattle.std.proofs.lemmas.List.{length-take-le, ext_get_or, take_more_same, take_all}
 use Rattle.std.proofs.lemmas.List.FromFn.{length-range_with_len, get_or-range_with_len}
 use Rattle.std.proofs.lemmas.Option.{slice_get_read, slice_get_past, slice_get_within, get_or_from_slice_get}
 use Rattle.std.proofs.Math.Nat.{mul-le-mul_right, mul-le-mul_left, div-mul-le_self, div-add-mod', mod-lt}
-use Rattle.mk_code.specs.declared.instr.Instr.{Instr}
 use Rattle.mk_code.specs.Listing.{Listing, IsListing}
 use Rattle.mk_ssa.specs.declared.Operand.{Operand}
 use Rattle.mk_ssa.specs.declared.Operand.TheVariants.{Secret, Public, Block}
@@ -18,7 +17,7 @@ use Rattle.mk_rules.specs.Wired.{IsSharedThere, IsWired, Wired}
 use Rattle.mk_rules.specs.Sums.{AreSums, first_share, share_sum, sums_of}
 use Rattle.mk_rules.proofs.Places.{wired-at}
 use Rattle.mk_rules.proofs.Sums.{slice_get-within}
-use Rattle.mk_rules.proofs.Rows.{sums_of-at, sums_of-past, length-sums_of}
+use Rattle.mk_rules.proofs.Rows.{sums_of-at, sums_of-past}
 
 -- the shares of a value are at places that fit, behind as many blocks as have their instructions in a code
 pub first_share-small : (code : Listing) (before : List Op) (v : Operand) (i : ℕ) → IsListing code → length before * (code.order + 1) ≤ 8388608

@@ -1,5 +1,5 @@
 -- One claim more; in the end either an output is left or all are claimed.
-use Rattle.std.proofs.Common.{◌≡◌, ◌+◌, ◌*◌, ◌<◌, ◌≤◌, ℕ, List, length, arith, ap, subst, sym, refl, inl, inr, ◌∙◌}
+use Rattle.std.proofs.Common.{◌≡◌, ◌+◌, ◌*◌, ◌<◌, ◌≤◌, ℕ, length, arith, ap, subst, refl, inl, inr, ◌∙◌}
 use Rattle.std.proofs.Common.{below_more}
 use Rattle.std.proofs.lemmas.Option.{slice_get_past}
 use Rattle.mk_rules.specs.Places.{IsClaimed}

@@ -1,5 +1,5 @@
 -- One equal instruction more; where the instructions end, the blocks' end too or don't.
-use Rattle.std.proofs.Common.{◌≡◌, ◌≤◌, List, ap, sym, ◌∙◌, subst, arith, Some, get_or, length, slice_get, refl}
+use Rattle.std.proofs.Common.{◌≡◌, List, sym, ◌∙◌, subst, length, refl}
 use Rattle.mk_code.specs.declared.instr.Instr.{Instr}
 use Rattle.mk_rules.specs.Places.{FirstMismatch}
 use Rattle.mk_rules.specs.Sums.{sums_of}
