@@ -10,7 +10,7 @@ use Rattle.mk_check.proofs.outputs.first_wrong_output.Goals as goal
 pub returns-then-not-is_claimed : goal.returns-then-not-is_claimed
 returns-then-not-is_claimed c product refresh = record {
   before = c.loop-k.invariant product refresh;
-  more = inl c.loop-k-test.true;
+  more = inl (omega arith);
   fails = λ claimed. let no = c.if-not-is_claimed.ensures.no product refresh claimed in absurd (cc);
 }
 
