@@ -3,7 +3,7 @@ use Rattle.std.proofs.Common.{◌≡◌, List, sym, ◌∙◌, subst, length, re
 use Rattle.mk_code.specs.declared.instr.Instr.{Instr}
 use Rattle.mk_rules.specs.Places.{FirstMismatch}
 use Rattle.mk_rules.specs.Sums.{sums_of}
-use Rattle.mk_check.proofs.Found.{take-same-more, same-to-end, FirstMismatch-end}
+use Rattle.mk_check.proofs.Lists.{take-same-more, same-to-end, FirstMismatch-end}
 use Rattle.mk_check.proofs.tiles.first_mismatch.Goals as goal
 
 pub loop-place-preserved : goal.loop-place-preserved
