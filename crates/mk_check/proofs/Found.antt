@@ -1,24 +1,20 @@
 -- The block that an instruction belongs to, where the blocks are sums, and that its places are small.
-use Rattle.std.proofs.Common.{◌≡◌, ℕ, zero, suc, ◌+◌, ◌*◌, ◌/◌, ◌%◌, ◌^◌, ◌<◌, ◌≤◌, Bool, List, [], ◌∷◌, ◌++◌, length, take, get_or, slice_get, nat_lt, true, false, Option, Some, None, refl, sym, ◌∙◌, ap, subst, arith}
-use Rattle.std.specs.List.{range_with_len}
+use Rattle.std.proofs.Common.{◌≡◌, ℕ, zero, ◌+◌, ◌*◌, ◌/◌, ◌%◌, ◌^◌, ◌<◌, ◌≤◌, List, [], length, take, get_or, slice_get, nat_lt, true, false, Some, None, refl, sym, ◌∙◌, ap, subst, arith}
 use Rattle.std.proofs.lemmas.Bool.{ltb-true, ltb-false}
-use Rattle.std.proofs.lemmas.List.{length-take-le, ext_get_or, take_more_same, take_all}
-use Rattle.std.proofs.lemmas.List.FromFn.{length-range_with_len, get_or-range_with_len}
-use Rattle.std.proofs.lemmas.Option.{slice_get_read, slice_get_past, slice_get_within, get_or_from_slice_get}
+use Rattle.std.proofs.lemmas.List.{length-take-le}
+use Rattle.std.proofs.lemmas.Option.{slice_get_read}
 use Rattle.std.proofs.Math.Nat.{mul-le-mul_right, mul-le-mul_left, div-mul-le_self, div-add-mod', mod-lt}
-use Rattle.mk_code.specs.declared.instr.Instr.{Instr}
 use Rattle.mk_code.specs.Listing.{Listing, IsListing}
 use Rattle.mk_ssa.specs.declared.Operand.{Operand}
 use Rattle.mk_ssa.specs.declared.Operand.TheVariants.{Secret, Public, Block}
 use Rattle.mk_ssa.specs.declared.Op.{Op}
 use Rattle.mk_ssa.specs.declared.Op.TheVariants.{Add}
 use Rattle.mk_ssa.specs.Kinds.{is_public}
-use Rattle.mk_rules.specs.Places.{FirstMismatch}
 use Rattle.mk_rules.specs.Wired.{IsSharedThere, IsWired, Wired}
 use Rattle.mk_rules.specs.Sums.{AreSums, first_share, share_sum, sums_of}
 use Rattle.mk_rules.proofs.Places.{wired-at}
 use Rattle.mk_rules.proofs.Sums.{slice_get-within}
-use Rattle.mk_rules.proofs.Rows.{sums_of-at, sums_of-past, length-sums_of}
+use Rattle.mk_rules.proofs.Rows.{sums_of-at, sums_of-past}
 
 -- the shares of a value are at places that fit, behind as many blocks as have their instructions in a code
 pub first_share-small : (code : Listing) (before : List Op) (v : Operand) (i : ℕ) → IsListing code → length before * (code.order + 1) ≤ 8388608
@@ -72,41 +68,3 @@ no_row code blocks place n sums shares behind =
     let same : n + 1 ≡ code.order + 1 = omega (arith, shares) in
     let whole : length blocks * (n + 1) ≤ place = omega (arith, mul-le-mul_right (n + 1) past, div-mul-le_self place (n + 1)) in
     sums_of-past code blocks place sums (subst (λ (m : ℕ). length blocks * m ≤ place) same whole)
-
--- a range has neighbouring places
-pub range-at : (first : ℕ) (places : List ℕ) (k : ℕ) → places ≡ range_with_len first (length places) → k < length places → get_or places k 0 ≡ first + k
-range-at first places k same below = ap (λ (l : List ℕ). get_or l k 0) same ∙ get_or-range_with_len first (length places) k 0 below
-
--- neighbouring places are a range
-pub range-from : (first : ℕ) (places : List ℕ) → ((k : ℕ) → k < length places → get_or places k 0 ≡ first + k) → places ≡ range_with_len first (length places)
-range-from first places at =
-    ext_get_or 0 places (range_with_len first (length places)) (sym (length-range_with_len first (length places)))
-    (λ k below. at k below ∙ sym (get_or-range_with_len first (length places) k 0 below))
-
--- one equal element more
-pub take-same-more : {X : Type 0} (xs ys : List X) (place : ℕ) (d y : X) → place < length xs → take place xs ≡ take place ys
-    → slice_get ys place ≡ Some y → get_or xs place d ≡ y → take (place + 1) xs ≡ take (place + 1) ys
-take-same-more xs ys place d y below same there equal =
-    take_more_same xs ys place d below (slice_get_within ys place y there) same (equal ∙ sym (get_or_from_slice_get ys place y d there))
-
--- nothing is there only behind the end
-slice_get_none-past : {X : Type 0} (xs : List X) (k : ℕ) → slice_get xs k ≡ None → length xs ≤ k
-slice_get_none-past [] k none = omega arith
-slice_get_none-past (x ∷ xs) zero none = absurd (cc)
-slice_get_none-past (x ∷ xs) (suc k) none = omega (arith, slice_get_none-past xs k none)
-
--- a list that ends where the other one ends too
-pub same-to-end : {X : Type 0} (xs ys : List X) (place : ℕ) → length xs ≤ place → take place xs ≡ take place ys → slice_get ys (length xs) ≡ None → xs ≡ ys
-same-to-end xs ys place ended same none =
-    let short : length ys ≤ length xs = slice_get_none-past ys (length xs) none in
-    sym (take_all place xs ended) ∙ same ∙ take_all place ys (omega (arith, ended, short))
-
--- a list that ends where the other one goes on
-pub FirstMismatch-end : {X : Type 0} (xs ys : List X) (place : ℕ) (y : X) → length xs ≤ place → place ≤ length xs → take place xs ≡ take place ys
-    → slice_get ys (length xs) ≡ Some y → FirstMismatch xs ys (length xs)
-FirstMismatch-end xs ys place y ended within same there =
-    let at : place ≡ length xs = omega (arith, ended, within) in
-    record {
-      before = subst (λ (k : ℕ). take k xs ≡ take k ys) at same;
-      differ = λ e. let none : slice_get xs (length xs) ≡ None = slice_get_past xs (length xs) (omega arith) in let no : None ≡ Some y = sym none ∙ e ∙ there in absurd (cc);
-    }

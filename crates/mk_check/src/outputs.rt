@@ -31,6 +31,7 @@ fn output(code: &Code, k: usize) -> &[u32]
     ensures places { result.now ≡ output_places code.now k }
     ensures count { length result.now ≡ code.now.order + 1 }
 {
+    // `field` also ensures that the code fits together.
     let _fits = code.field();
     let shares = usize::from(code.order()) + 1;
     let start = k * shares;
@@ -46,6 +47,7 @@ fn is_claimed(code: &Code, blocks: &[Op], claims: &[Operand], k: usize) -> bool
     ensures yes { IsTrue result → (product refresh : Gadget) → IsClaimed code.now product refresh blocks.now claims.now k }
     ensures no { (product refresh : Gadget) → IsClaimed code.now product refresh blocks.now claims.now k → IsTrue result }
 {
+    // `field` also ensures that the code fits together.
     let _fits = code.field();
     let shares = usize::from(code.order()) + 1;
     match claims.get(k) {

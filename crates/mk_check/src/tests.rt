@@ -1,4 +1,5 @@
 ghost use Rattle.std.specs.Prelude.{IfOk};
+ghost use Rattle.mk_rules.specs.Sums.{AreSums};
 
 use super::*;
 use mk_base::{Items, Memory};

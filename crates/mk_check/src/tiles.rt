@@ -28,6 +28,7 @@ fn wanted(code: &Code, blocks: &[Op], place: usize) -> Option<Instr>
     requires few { place ≤ 8388608 }
     ensures { result ≡ slice_get (sums_of code.now blocks.now) place }
 {
+    // `field` also ensures that the code fits together.
     let _fits = code.field();
     let shares = usize::from(code.order()) + 1;
     let share = (place % shares) as u32;
@@ -54,6 +55,7 @@ pub(crate) fn first_mismatch(code: &Code, blocks: &[Op]) -> Option<u32>
     requires wired { Wired code.now blocks.now }
     ensures { MatchOption result (code.now.instrs ≡ sums_of code.now blocks.now) (λ k. FirstMismatch code.now.instrs (sums_of code.now blocks.now) k) }
 {
+    // `field` also ensures that the code fits together.
     let _fits = code.field();
     let instrs = code.instrs().as_slice();
     for (place, instr) in instrs.iter().enumerate() {

@@ -1,6 +1,6 @@
 -- The outputs are the banks of the claims exactly where each claim is that of its output.
-use Rattle.std.proofs.Common.{◌≡◌, ℕ, zero, suc, ◌+◌, ◌-◌, ◌*◌, ◌<◌, ◌≤◌, List, [], ◌∷◌, ◌++◌, ◌⊎◌, All, inl, inr, length, take, drop, slice_get, slice_index_or, Option, Some, None, IsSomeAnd, refl, sym, ◌∙◌, ap, subst, arith, length-drop}
-use Rattle.std.specs.List.{flat_map, range_with_len, AllByRecursion}
+use Rattle.std.proofs.Common.{◌≡◌, ℕ, zero, suc, ◌+◌, ◌*◌, ◌<◌, ◌≤◌, List, [], ◌∷◌, ◌++◌, inl, inr, length, take, drop, slice_get, slice_index_or, IsSomeAnd, refl, sym, ◌∙◌, ap, subst, arith, length-drop}
+use Rattle.std.specs.List.{flat_map, AllByRecursion}
 use Rattle.std.proofs.lemmas.Bool.{cases_lt}
 use Rattle.std.proofs.lemmas.List.{length-append, take-append-drop, drop-drop}
 use Rattle.std.proofs.lemmas.List.Elements.{recursion_from_All, All-from_recursion}
@@ -14,9 +14,8 @@ use Rattle.mk_rules.specs.Gadget.{Gadget}
 use Rattle.mk_rules.specs.Tiles.{banks_of, value_number}
 use Rattle.mk_rules.specs.Wired.{IsSharedThere, Wired}
 use Rattle.mk_rules.specs.Accepts.{Outputs}
-use Rattle.mk_rules.specs.Places.{output_places, IsClaimed, FirstWrongOutput}
+use Rattle.mk_rules.specs.Places.{IsClaimed, FirstWrongOutput}
 use Rattle.mk_rules.specs.Sums.{AreSums, first_share}
-use Rattle.mk_rules.proofs.Places.{IsSomeAnd-value}
 use Rattle.mk_rules.proofs.Sums.{bank-of-sums}
 
 -- pieces of n elements, one for each of xs, are the list if each stands in its place

@@ -1,13 +1,13 @@
 -- What the rule says of three small certificates.
-use Rattle.std.proofs.Common.{◌≡◌, ℕ, zero, suc, List, [], ◌∷◌, Some, None, refl, sym, ◌∙◌, arith}
+use Rattle.std.proofs.Common.{◌≡◌, ℕ, zero, suc, List, [], ◌∷◌, Some, None, refl, arith}
 use Rattle.std.proofs.lemmas.List.Elements.{All-from_recursion}
 use Rattle.std.proofs.lemmas.Option.{same_Some}
 use Rattle.mk_code.specs.Examples.{byte_sum, leaking_square}
-use Rattle.mk_ssa.specs.Kinds.{Kind, Linear, Strong}
+use Rattle.mk_ssa.specs.Kinds.{Linear, Strong}
 use Rattle.mk_rules.specs.Gadget.{Gadget}
 use Rattle.mk_rules.specs.Tiles.{laid, laid_banks}
 use Rattle.mk_rules.specs.Wired.{IsSharedThere}
-use Rattle.mk_rules.specs.Reaches.{Link, links, IsPath, Reaches, Undoubled}
+use Rattle.mk_rules.specs.Reaches.{links, IsPath, Reaches, Undoubled}
 use Rattle.mk_rules.specs.Accepts.{Accepts}
 use Rattle.mk_rules.specs.Examples.{sum_cert, plain_square, fresh_square}
 use Rattle.mk_rules.specs.Sums.{IsSum}

@@ -1,8 +1,8 @@
 -- What is wired at each block, and that a first place where a certificate departs from a code is the only
 -- one and makes that part of the rule false.
-use Rattle.std.proofs.Common.{◌≡◌, ◌≢◌, ℕ, zero, suc, ◌+◌, ◌<◌, ◌≤◌, List, [], ◌∷◌, ◌++◌, ◌⊎◌, inl, inr, length, take, slice_get, Option, Some, None, IsSomeAnd, refl, sym, ◌∙◌, ap, subst, arith, append_assoc, get_or}
+use Rattle.std.proofs.Common.{◌≡◌, ℕ, zero, suc, ◌+◌, ◌<◌, List, [], ◌∷◌, ◌++◌, inl, inr, length, take, slice_get, Option, Some, None, IsSomeAnd, refl, sym, ◌∙◌, ap, subst, arith, append_assoc, get_or}
 use Rattle.std.proofs.lemmas.Bool.{cases_order}
-use Rattle.std.proofs.lemmas.List.{append-nil, take_more, take_all}
+use Rattle.std.proofs.lemmas.List.{append-nil, take_more}
 use Rattle.mk_code.specs.Listing.{Listing}
 use Rattle.mk_ssa.specs.declared.Op.{Op}
 use Rattle.mk_ssa.specs.declared.Operand.{Operand}
@@ -75,7 +75,7 @@ FirstUnwired-before code blocks j k below first later =
 only : (j k : ℕ) → (j < k → ⊥) → (k < j → ⊥) → j ≡ k
 only j k not_before not_behind = elim (cases_order j k) [
   | inl same ↦ same
-  | inr other ↦ elim other [ | inl before ↦ absurd (not_before before) | inr behind ↦ absurd (not_behind behind) ]
+  | inr other ↦ elim other [ inl before ↦ absurd (not_before before) | inr behind ↦ absurd (not_behind behind) ]
 ]
 
 pub FirstUnwired-only : (code : Listing) (blocks : List Op) (j k : ℕ) → FirstUnwired code blocks j → FirstUnwired code blocks k → j ≡ k

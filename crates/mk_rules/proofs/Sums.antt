@@ -1,31 +1,29 @@
 -- Blocks that are sums: their instructions and banks, whatever gadgets stand for products and refreshes;
 -- they double no value, and their code works share by share.
-use Rattle.std.proofs.Common.{◌≡◌, ℕ, zero, suc, ◌+◌, ◌-◌, ◌*◌, ◌%◌, ◌<◌, ◌≤◌, List, [], ◌∷◌, ◌++◌, All, length, map, slice_index, slice_index_or, slice_get, Option, Some, None, IsSomeAnd, false, if◌then◌else◌, nat_lt, refl, sym, ◌∙◌, ap, subst, arith, append_assoc, inl, inr}
-use Rattle.std.specs.List.{range_with_len, flat_map, AllByRecursion}
+use Rattle.std.proofs.Common.{◌≡◌, ℕ, zero, suc, ◌+◌, ◌-◌, ◌*◌, ◌%◌, ◌<◌, ◌≤◌, List, [], ◌∷◌, ◌++◌, length, map, slice_index, slice_index_or, slice_get, Option, Some, None, IsSomeAnd, false, if◌then◌else◌, nat_lt, refl, sym, ◌∙◌, ap, subst, arith, append_assoc, inl, inr}
+use Rattle.std.specs.List.{range_with_len, AllByRecursion}
 use Rattle.std.proofs.lemmas.Bool.{lt-ltb, le-ltb, cases_lt}
-use Rattle.std.proofs.lemmas.List.{length-append, append-nil, get_or_append_left, get_or-append-add}
+use Rattle.std.proofs.lemmas.List.{length-append, append-nil, get_or_append_left}
 use Rattle.std.proofs.lemmas.List.Elements.{recursion_from_All}
 use Rattle.std.proofs.lemmas.List.FromFn.{length-range_with_len, length-map-range_with_len, get_or-range_with_len, get_or-map-range_with_len}
 use Rattle.std.proofs.lemmas.Nat.{mod-mul-add}
 use Rattle.std.proofs.Math.Nat.{mul-le-mul_right}
 use Rattle.std.proofs.Math.Seq.{get_or-append_seam}
 use Rattle.mk_code.specs.declared.instr.Instr.{Instr}
-use Rattle.mk_code.specs.declared.instr.Instr.TheVariants as instr
 use Rattle.mk_code.specs.Listing.{Listing, inputs_len}
 use Rattle.mk_code.specs.Columns.{MayRead, AllStayIn, AreColumns}
 use Rattle.mk_ssa.specs.declared.Operand.{Operand}
 use Rattle.mk_ssa.specs.declared.Operand.TheVariants.{Secret, Public, Block}
 use Rattle.mk_ssa.specs.declared.Op.{Op}
-use Rattle.mk_ssa.specs.declared.Op.TheVariants.{Const, PubAdd, PubMul, PubSq, PubMap, Lift, Add, AddPub, Scale, Sq, Map, Mul, Refresh}
+use Rattle.mk_ssa.specs.declared.Op.TheVariants.{Add}
 use Rattle.mk_ssa.specs.Kinds.{is_public, Linear, Strong}
 use Rattle.mk_rules.specs.Gadget.{Gadget, placed, placed_outs}
 use Rattle.mk_rules.specs.Template.{template}
 use Rattle.mk_rules.specs.Tiles.{value_number, input_banks, laid, laid_banks, reads, first_place, banks_of}
-use Rattle.mk_rules.specs.Wired.{IsSharedThere, IsWired, AllWired, Wired}
+use Rattle.mk_rules.specs.Wired.{IsSharedThere, AllWired, Wired}
 use Rattle.mk_rules.specs.Reaches.{Link, links, Undoubled}
 use Rattle.mk_rules.specs.Sums.{IsSum, AreSums, first_share, share_sum, sum_rows, sums_of}
 use Rattle.mk_rules.proofs.AddTemplate.{adds, map-range-same, placed-add, placed_outs-add}
-use Rattle.mk_rules.proofs.Places.{IsSomeAnd-value}
 
 -- each block is a sum, by recursion
 abbrev pub AllSums : List Op → Type 0

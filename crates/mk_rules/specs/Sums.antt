@@ -7,7 +7,7 @@ use Rattle.mk_code.specs.Listing.{Listing, inputs_len}
 use Rattle.mk_ssa.specs.declared.Operand.{Operand}
 use Rattle.mk_ssa.specs.declared.Operand.TheVariants.{Secret, Public, Block}
 use Rattle.mk_ssa.specs.declared.Op.{Op}
-use Rattle.mk_ssa.specs.declared.Op.TheVariants.{Const, PubAdd, PubMul, PubSq, PubMap, Lift, Add, AddPub, Scale, Sq, Map, Mul, Refresh}
+use Rattle.mk_ssa.specs.declared.Op.TheVariants.{Add}
 
 -- the sum of two shared values
 abbrev pub IsSum : Op → Type 0

@@ -1,6 +1,4 @@
 -- What the clauses say of the verdict.
-use Rattle.std.proofs.Common.{◌≡◌, subst}
-use Rattle.mk_check.specs.Verdict.{IsVerdict}
 use Rattle.mk_check.proofs.Verdicts.{verdict-private, verdict-output, verdict-accepted, verdict-unwired, verdict-off_tile, verdict-wrong_output}
 use Rattle.mk_check.proofs.check.Goals as goal
 

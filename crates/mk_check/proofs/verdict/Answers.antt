@@ -1,8 +1,7 @@
 -- What was found first, or that nothing was.
-use Rattle.std.proofs.Common.{◌≡◌, List, ap, subst, sym, ◌∙◌}
+use Rattle.std.proofs.Common.{◌≡◌, List, ap, subst, ◌∙◌}
 use Rattle.mk_ssa.specs.declared.Op.{Op}
 use Rattle.mk_ssa.specs.declared.Operand.{Operand}
-use Rattle.mk_rules.specs.Gadget.{Gadget}
 use Rattle.mk_rules.specs.Accepts.{Outputs}
 use Rattle.mk_rules.specs.Places.{FirstMismatch, FirstWrongOutput}
 use Rattle.mk_rules.specs.Sums.{sums_of}

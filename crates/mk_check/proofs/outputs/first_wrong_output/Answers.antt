@@ -1,5 +1,5 @@
 -- One claim more; in the end either an output is left or all are claimed.
-use Rattle.std.proofs.Common.{◌≡◌, ◌+◌, ◌*◌, ◌<◌, ◌≤◌, ℕ, List, length, arith, ap, subst, sym, refl, inl, inr, ◌∙◌}
+use Rattle.std.proofs.Common.{◌≡◌, ◌+◌, ◌*◌, ◌<◌, ◌≤◌, ℕ, length, arith, ap, subst, refl, inl, inr, ◌∙◌}
 use Rattle.std.proofs.Common.{below_more}
 use Rattle.std.proofs.lemmas.Option.{slice_get_past}
 use Rattle.mk_rules.specs.Places.{IsClaimed}
@@ -10,7 +10,7 @@ use Rattle.mk_check.proofs.outputs.first_wrong_output.Goals as goal
 pub returns-then-not-is_claimed : goal.returns-then-not-is_claimed
 returns-then-not-is_claimed c product refresh = record {
   before = c.loop-k.invariant product refresh;
-  more = inl c.loop-k-test.true;
+  more = inl (omega arith);
   fails = λ claimed. let no = c.if-not-is_claimed.ensures.no product refresh claimed in absurd (cc);
 }
 

@@ -1,7 +1,6 @@
 -- Places that are neighbours are a range, and a range has them.
-use Rattle.std.proofs.Common.{◌≡◌, ◌+◌, ℕ, refl, ap, sym, ◌∙◌, arith, get_or, length}
-use Rattle.std.specs.List.{range_with_len}
-use Rattle.mk_check.proofs.Found.{range-at, range-from}
+use Rattle.std.proofs.Common.{◌+◌, ℕ, refl, ap, sym, ◌∙◌, arith}
+use Rattle.mk_check.proofs.Lists.{range-at, range-from}
 use Rattle.mk_check.proofs.outputs.is_bank.Goals as goal
 
 pub returns-then-from-share : goal.returns-then-from-share

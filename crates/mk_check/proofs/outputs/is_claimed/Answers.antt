@@ -1,10 +1,7 @@
 -- The claim is there, and its bank is the output or isn't.
-use Rattle.std.proofs.Common.{◌≡◌, ◌+◌, ◌*◌, ◌<◌, ℕ, List, length, slice_get, Some, None, is_some, arith, ap, subst, sym, refl, ◌∙◌}
+use Rattle.std.proofs.Common.{◌≡◌, ◌+◌, ◌*◌, ◌<◌, ℕ, length, slice_get, Some, is_some, ap, subst, sym, refl, ◌∙◌}
 use Rattle.std.specs.List.{range_with_len}
-use Rattle.mk_ssa.specs.declared.Operand.{Operand}
-use Rattle.mk_rules.specs.Places.{output_places}
 use Rattle.mk_rules.specs.Sums.{first_share}
-use Rattle.mk_rules.specs.Wired.{IsSharedThere}
 use Rattle.mk_check.proofs.Claimed.{first-small, found-claim, no_claim, IsClaimed-from, IsClaimed-there, IsClaimed-bank, IsClaimed-none}
 use Rattle.mk_check.proofs.outputs.is_claimed.Goals as goal
 

@@ -1,5 +1,5 @@
 -- The outputs are whole.
-use Rattle.std.proofs.Common.{◌≡◌, ◌+◌, ◌*◌, ◌<◌, ℕ, length, arith, ap, subst, sym, ◌∙◌}
+use Rattle.std.proofs.Common.{◌+◌, ℕ, length, ap, ◌∙◌}
 use Rattle.mk_check.proofs.Claimed.{output-whole}
 use Rattle.mk_check.proofs.outputs.output.Goals as goal
 

@@ -1,9 +1,9 @@
 -- One equal instruction more; where the instructions end, the blocks' end too or don't.
-use Rattle.std.proofs.Common.{◌≡◌, ◌≤◌, List, ap, sym, ◌∙◌, subst, arith, Some, get_or, length, slice_get, refl}
+use Rattle.std.proofs.Common.{◌≡◌, List, sym, ◌∙◌, subst, length, refl}
 use Rattle.mk_code.specs.declared.instr.Instr.{Instr}
 use Rattle.mk_rules.specs.Places.{FirstMismatch}
 use Rattle.mk_rules.specs.Sums.{sums_of}
-use Rattle.mk_check.proofs.Found.{take-same-more, same-to-end, FirstMismatch-end}
+use Rattle.mk_check.proofs.Lists.{take-same-more, same-to-end, FirstMismatch-end}
 use Rattle.mk_check.proofs.tiles.first_mismatch.Goals as goal
 
 pub loop-place-preserved : goal.loop-place-preserved

@@ -1,5 +1,5 @@
 -- The block of the instruction, and what it says of its share.
-use Rattle.std.proofs.Common.{◌≡◌, ◌+◌, ap, ◌∙◌, sym, arith, Some, None, is_some}
+use Rattle.std.proofs.Common.{◌+◌, ap, ◌∙◌, sym, arith, is_some}
 use Rattle.mk_check.proofs.Found.{HasRow, HasRow-from, no_row}
 use Rattle.mk_check.proofs.tiles.wanted.Goals as goal
 
