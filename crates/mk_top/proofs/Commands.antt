@@ -1,5 +1,13 @@
 -- The words of a command.
-use Rattle.std.proofs.Common.{◌≡◌, ℕ, suc, ◌<◌, ◌≤◌, List, [], ◌∷◌, length, get_or, Option, Some, None, IfSome, bytes_eq, refl, sym, ◌∙◌, ap, arith}
+use Rattle.std.proofs.Common.{◌≡◌, ℕ, suc, ◌<◌, ◌≤◌, List, [], ◌∷◌, length, get_or, true, sym, ◌∙◌, arith}
+use Rattle.std.specs.Prelude.{bytes_eq}
+use Rattle.std.proofs.lemmas.Slice.Eq.{bytes_eq-Decides}
+
+-- a list of one word
+pub one-word : (ws : List (List ℕ)) (a : List ℕ) → 1 ≤ length ws → length ws < 2 → a ≡ get_or ws 0 a → ws ≡ a ∷ []
+one-word [] a least below first = absurd (omega (arith, least))
+one-word (x ∷ []) a least below first = cc
+one-word (x ∷ y ∷ ws) a least below first = absurd (omega (arith, below))
 
 -- a list of two words
 pub two-words : (ws : List (List ℕ)) (a b : List ℕ) → 2 ≤ length ws → length ws < 3 → a ≡ get_or ws 0 a → b ≡ get_or ws 1 b → ws ≡ a ∷ b ∷ []
@@ -7,3 +15,7 @@ two-words [] a b least below first second = absurd (omega (arith, least))
 two-words (x ∷ []) a b least below first second = absurd (omega (arith, least))
 two-words (x ∷ y ∷ []) a b least below first second = cc
 two-words (x ∷ y ∷ z ∷ ws) a b least below first second = absurd (omega (arith, below))
+
+-- words that were found equal are the same
+pub same-word : (xs ys : List ℕ) → bytes_eq xs ys ≡ true → xs ≡ ys
+same-word xs ys equal = (bytes_eq-Decides xs ys).0 equal

@@ -11,6 +11,8 @@ pub mod Names
 pub mod SumCode
 pub mod SumMeaning
 pub mod Commands
-pub mod Compiled
-pub mod Ends
 pub mod SumCases
+pub mod Given
+pub mod SumText
+pub mod Deciding
+pub mod Ends

@@ -42,6 +42,6 @@ once-sum = refl
 
 -- at order 2, on the shares 01 02 54 of 57, which is added twice, and 80 01 02 of 83, the sum is 83
 twice-sum : decoded 3 1 (observation (sum_code 2 2 0 (0 ∷ 1 ∷ [])).outs
-        (trace (sum_code 2 2 0 (0 ∷ 1 ∷ [])) [] (0x01 ∷ 0x02 ∷ 0x54 ∷ 0x80 ∷ 0x01 ∷ 0x02 ∷ []) [])) ≡ 0x83 ∷ []
+    (trace (sum_code 2 2 0 (0 ∷ 1 ∷ [])) [] (0x01 ∷ 0x02 ∷ 0x54 ∷ 0x80 ∷ 0x01 ∷ 0x02 ∷ []) [])) ≡ 0x83 ∷ []
 unfolding chain run decoded field_sum
 twice-sum = refl

@@ -252,16 +252,9 @@ laid-finished order secrets first rest n s d outs value place made e f a b c g l
     finished-sum order secrets first rest d outs a b c g instrs (h ∙ ap (λ (k : ℕ). range_with_len place k) e ∙ ap (λ (p : ℕ). range_with_len p (order + 1)) at)
 
 -- as many blocks as numbers
-length-additions : (value : Operand) (k : ℕ) (cs : List ℕ) → length (additions value k cs) ≡ length cs
+pub length-additions : (value : Operand) (k : ℕ) (cs : List ℕ) → length (additions value k cs) ≡ length cs
 length-additions value k [] = refl
 length-additions value k (c ∷ rest) = ap suc (length-additions (Block k) (k + 1) rest)
-
--- a certificate of few blocks and one claim
-abbrev pub HasFew : Claimed → Type 0
-HasFew cert = (length cert.blocks ≤ 63) × (length cert.claims ≤ 1)
-
-pub has-few : (first : ℕ) (rest : List ℕ) → length rest ≤ 63 → HasFew (sum_cert first rest)
-has-few first rest few = (omega (arith, length-additions (Secret first) 0 rest), omega arith)
 
 -- what holds of a code and certificate holds of an answer that has them
 pub answered-with : {X E : Type 0} (r : Result X E) (f : X → Listing) (g : X → Claimed) (code : Listing) (cert : Claimed) (P : Listing → Claimed → Type 0)

@@ -1,23 +1,34 @@
 -- What the answers of the program mean, by the bytes that its input gave and its output took.
-use Rattle.std.specs.Prelude.{◌≡◌, ◌≢◌, ℕ, ◌≤◌, ◌<◌, List, ◌++◌, Option, Some, IfSome, length, ◌⊎◌}
-use Rattle.mk_base.specs.Streams.{TakesPrefix}
+use Rattle.std.specs.Prelude.{◌≡◌, ◌≢◌, ℕ, ◌≤◌, ◌<◌, List, [], ◌++◌, Option, Some, None, IfSome, length, ◌⊎◌, codes}
+use Rattle.mk_base.specs.Outside.{Rose}
+use Rattle.mk_base.specs.Streams.{CameWithin, TakesPrefix}
 use Rattle.mk_code.specs.Listing.{Listing}
 use Rattle.mk_code.specs.Private.{Private}
 use Rattle.mk_rules.specs.Claimed.{Claimed}
+use Rattle.mk_rules.specs.Gadget.{Gadget}
+use Rattle.mk_rules.specs.Wired.{Wired}
+use Rattle.mk_rules.specs.Tiles.{Tiles}
+use Rattle.mk_rules.specs.Accepts.{Accepts}
+use Rattle.mk_rules.specs.Places.{FirstUnwired, FirstOffTile, FirstWrongOutput}
+use Rattle.mk_rules.specs.Sums.{AreSums}
 use Rattle.mk_bundle.specs.Text.{text}
+use Rattle.mk_bundle.specs.Pairs.{IsPair, IsBundleText, NamesFirst}
 use Rattle.mk_top.specs.declared.first.Program.{Program}
+use Rattle.mk_top.specs.declared.command.Command.{Command}
+use Rattle.mk_top.specs.declared.command.Command.TheVariants.{Compile, Check}
 use Rattle.mk_top.specs.declared.status.Status.{Status}
-use Rattle.mk_top.specs.declared.status.Status.TheVariants.{Done, Refused, Words, Source, Bundle, Inputs, ReadFault, WriteFault, Memory, Tapes, TooLong}
+use Rattle.mk_top.specs.declared.status.Status.TheVariants as status
 use Rattle.mk_top.specs.declared.fault.Fault.{Fault}
-use Rattle.mk_top.specs.declared.fault.Fault.TheVariants as fault
-use Rattle.mk_top.specs.Words.{AsksCompile}
+use Rattle.mk_top.specs.declared.fault.Fault.TheVariants.{Words, NotYet, ReadFault, WriteFault, Memory, TooLong, Bundle, Tile, Operand, Output}
 use Rattle.mk_top.specs.First.{Spells}
 use Rattle.mk_top.specs.Correct.{Correct}
 use Rattle.mk_top.specs.Compiled.{IsCompiled}
+use Rattle.mk_top.specs.Faults.{status_of, fault_line}
 
--- the most bytes of a source
-abbrev pub source_limit : ℕ
-source_limit = 1048576
+-- the most bytes that a command reads: of a source, and of a bundle
+abbrev pub limit_of : Command → ℕ
+limit_of (Compile order) = 1048576
+limit_of Check = 268435456
 
 -- the bytes are spelled by this program, and by no other
 abbrev pub SpelledBy : Program → List ℕ → Type 0
@@ -27,9 +38,14 @@ SpelledBy p bytes = Spells p bytes × ((q : Program) → Spells q bytes → q �
 abbrev pub IsNoSource : List ℕ → Type 0
 IsNoSource bytes = (p : Program) → Spells p bytes → ⊥
 
+-- the rule accepts the code with its certificate, whatever gadgets stand for products and refreshes
+abbrev pub IsAccepted : Listing → Claimed → Type 0
+IsAccepted code cert = (product refresh : Gadget) → Accepts code product refresh cert
+
 -- A source, given where the input tells its bytes, was compiled at this order to this text: one program
--- spells the bytes, and the text is that of a code and a certificate which are the program's, the code
--- being correct for the program and private.
+-- spells the bytes, and the text is that of a code and a certificate which are the program's. The code
+-- is correct for the program and private, and `check` accepts the text: it is within its limit, its
+-- blocks are sums, and the rule accepts it.
 pub record Compiles (order : ℕ) (given : Option (List ℕ)) (written : List ℕ) : Type 0 where
   pub program : Program
   pub code : Listing
@@ -38,7 +54,25 @@ pub record Compiles (order : ℕ) (given : Option (List ℕ)) (written : List �
   pub compiled : IsCompiled program order code cert
   pub correct : Correct program order code
   pub private : Private code
+  pub pair : IsPair code cert
   pub bytes : written ≡ text code cert
+  pub checks : (length written ≤ limit_of Check) × AreSums cert.blocks × IsAccepted code cert
+
+-- A bundle, given where the input tells its bytes, was checked: the bytes are the text of a code and a
+-- certificate, whoever wrote them, the rule accepts the code with its certificate, and it is private.
+pub record Checks (given : Option (List ℕ)) : Type 0 where
+  pub code : Listing
+  pub cert : Claimed
+  pub pair : IsPair code cert
+  pub bundle : IfSome given (λ bytes. bytes ≡ text code cert)
+  pub sums : AreSums cert.blocks
+  pub accepted : IsAccepted code cert
+  pub private : Private code
+
+-- what a command made of its input, and the text that it writes
+abbrev pub Makes : Command → Option (List ℕ) → List ℕ → Type 0
+Makes (Compile order) given written = Compiles order given written
+Makes Check given written = Checks given × (written ≡ codes "accepted\n")
 
 -- the output took this whole text, where it tells what it took
 abbrev pub TakesWhole : Option (List ℕ) → List ℕ → Option (List ℕ) → Type 0
@@ -48,49 +82,90 @@ TakesWhole before written after = IfSome before (λ taken. after ≡ Some (taken
 abbrev pub TakesSome : Option (List ℕ) → List ℕ → Option (List ℕ) → Type 0
 TakesSome before written after = IfSome before (λ taken. TakesPrefix taken written after)
 
+-- The answer that a code and certificate decide: acceptance, or the first fault. Blocks other than sums
+-- are not checked yet; then come the first block with a wrong operand, the first instruction that isn't
+-- that of its template, and the first output that isn't the claimed value.
+abbrev pub PairDecides : Listing → Claimed → Option Fault → Type 0
+PairDecides code cert None = AreSums cert.blocks × IsAccepted code cert
+PairDecides code cert (Some Words) = ⊥
+PairDecides code cert (Some NotYet) = AreSums cert.blocks → ⊥
+PairDecides code cert (Some ReadFault) = ⊥
+PairDecides code cert (Some WriteFault) = ⊥
+PairDecides code cert (Some Memory) = ⊥
+PairDecides code cert (Some (TooLong limit)) = ⊥
+PairDecides code cert (Some (Bundle line)) = ⊥
+PairDecides code cert (Some (Operand block)) = AreSums cert.blocks × FirstUnwired code cert.blocks block
+PairDecides code cert (Some (Tile instr)) =
+    AreSums cert.blocks × Wired code cert.blocks × ((product refresh : Gadget) → FirstOffTile code product refresh cert.blocks instr)
+PairDecides code cert (Some (Output index)) =
+    AreSums cert.blocks × Wired code cert.blocks
+    × ((product refresh : Gadget) → Tiles code product refresh cert.blocks × FirstWrongOutput code product refresh cert.blocks cert.claims index)
+
+-- the answer that a bundle decides: that of its code and certificate, or where it goes wrong as a text
+abbrev pub BundleDecides : List ℕ → Option Fault → Type 0
+BundleDecides bytes (Some (Bundle line)) = NamesFirst line bytes × (IsBundleText bytes → ⊥)
+BundleDecides bytes answer = (code : Listing) × (cert : Claimed) × IsPair code cert × (bytes ≡ text code cert) × PairDecides code cert answer
+
+-- the answer that a source decides: whether a program spells it
+abbrev pub SourceDecides : List ℕ → Option Fault → Type 0
+SourceDecides bytes None = (p : Program) × Spells p bytes
+SourceDecides bytes (Some NotYet) = IsNoSource bytes
+SourceDecides bytes (Some _) = ⊥
+
+-- the answer that the bytes within the limit decide
+abbrev pub TextDecides : Command → List ℕ → Option Fault → Type 0
+TextDecides (Compile order) bytes answer = SourceDecides bytes answer
+TextDecides Check bytes answer = BundleDecides bytes answer
+
+-- the answer that the bytes of the input decide under a command: no fault, or this one
+abbrev pub Decides : Command → List ℕ → Option Fault → Type 0
+Decides command bytes (Some (TooLong limit)) = (limit ≡ limit_of command) × (limit < length bytes)
+Decides command bytes answer = (length bytes ≤ limit_of command) × TextDecides command bytes answer
+
+-- Why a command answers a fault. Reading and writing fail only where the input's, the output's count of
+-- faults rose, reading only while no more bytes than the limit came; want of memory is free, and the bytes of the input decide every other fault.
+abbrev pub Because : Command → Option (List ℕ) → Option (List ℕ) → ℕ → ℕ → ℕ → ℕ → Fault → Type 0
+Because command given after reads then_reads writes then_writes ReadFault =
+    Rose reads then_reads × IfSome given (λ bytes. CameWithin (limit_of command) bytes after)
+Because command given after reads then_reads writes then_writes WriteFault = Rose writes then_writes
+Because command given after reads then_reads writes then_writes Memory = Unit {0}
+Because command given after reads then_reads writes then_writes fault = IfSome given (λ bytes. Decides command bytes (Some fault))
+
+-- the status of an answer: done, or that of its fault
+abbrev pub answer_status : Option Fault → Status
+answer_status None = status.Done
+answer_status (Some fault) = status_of fault
+
+-- the input was read to its end, within the limit, where it tells its bytes
+abbrev pub ReadWhole : ℕ → Option (List ℕ) → Option (List ℕ) → Type 0
+ReadWhole limit given after = IfSome given (λ bytes. (length bytes ≤ limit) × (after ≡ Some []))
+
 -- the answer is this one, or memory was wanted
 abbrev pub IsOrMemory : Status → Status → Type 0
-IsOrMemory result status = (result ≡ status) ⊎ (result ≡ Memory)
+IsOrMemory result wanted = (result ≡ wanted) ⊎ (result ≡ status.Memory)
 
 -- after these answers the input was read to its end
 abbrev pub ReadsToEnd : Status → Type 0
-ReadsToEnd result = (result ≢ Words) × (result ≢ ReadFault) × (result ≢ Memory) × (result ≢ TooLong)
+ReadsToEnd result = (result ≢ status.Words) × (result ≢ status.ReadFault) × (result ≢ status.Memory) × (result ≢ status.TooLong)
 
 -- with these answers nothing was written to the output
 abbrev pub WritesNothing : Status → Type 0
-WritesNothing result = (result ≢ Done) × (result ≢ WriteFault)
+WritesNothing result = (result ≢ status.Done) × (result ≢ status.WriteFault)
 
--- the answers that the forms of words have
-abbrev pub IsAnswer : Status → Type 0
-IsAnswer Done = Unit {0}
-IsAnswer Refused = ⊥
-IsAnswer Words = Unit {0}
-IsAnswer Source = Unit {0}
-IsAnswer Bundle = ⊥
-IsAnswer Inputs = ⊥
-IsAnswer ReadFault = Unit {0}
-IsAnswer WriteFault = Unit {0}
-IsAnswer Memory = Unit {0}
-IsAnswer Tapes = ⊥
-IsAnswer TooLong = Unit {0}
+-- the answers that a command has
+abbrev pub IsAnswerOf : Command → Status → Type 0
+IsAnswerOf command status.Done = Unit {0}
+IsAnswerOf command status.Source = Unit {0}
+IsAnswerOf command status.ReadFault = Unit {0}
+IsAnswerOf command status.WriteFault = Unit {0}
+IsAnswerOf command status.Memory = Unit {0}
+IsAnswerOf command status.TooLong = Unit {0}
+IsAnswerOf Check status.Refused = Unit {0}
+IsAnswerOf Check status.Bundle = Unit {0}
+IsAnswerOf command _ = ⊥
 
--- the words are a form
-abbrev pub IsForm : List (List ℕ) → Type 0
-IsForm words = (order : ℕ) × AsksCompile words order
-
--- the output took the whole text of what the source was compiled to
-abbrev pub CompilesWhole : ℕ → Option (List ℕ) → Option (List ℕ) → Option (List ℕ) → Type 0
-CompilesWhole order given before after = (written : List ℕ) × Compiles order given written × TakesWhole before written after
-
--- the output took a prefix of that text
-abbrev pub CompilesCut : ℕ → Option (List ℕ) → Option (List ℕ) → Option (List ℕ) → Type 0
-CompilesCut order given before after = (written : List ℕ) × Compiles order given written × TakesSome before written after
-
--- the limit that a fault tells is that of a source
-abbrev pub IsLimit : Fault → Type 0
-IsLimit fault.Words = Unit {0}
-IsLimit fault.NotYet = Unit {0}
-IsLimit fault.ReadFault = Unit {0}
-IsLimit fault.WriteFault = Unit {0}
-IsLimit fault.Memory = Unit {0}
-IsLimit (fault.TooLong limit) = limit ≡ source_limit
+-- the fault's line was told: a prefix of it, where the error output tells what it took, and the whole
+-- line where the error output's count of faults didn't rise
+abbrev pub Tells : Fault → Option (List ℕ) → Option (List ℕ) → ℕ → ℕ → Type 0
+Tells fault before after faults now =
+    TakesSome before (fault_line fault) after × ((Rose faults now → ⊥) → TakesWhole before (fault_line fault) after)

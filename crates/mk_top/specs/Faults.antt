@@ -1,5 +1,7 @@
 -- How a run ends: its status, and the line that it tells.
-use Rattle.std.specs.Prelude.{ℕ, List, [], ◌∷◌, ◌++◌, codes, decimal}
+use Rattle.std.specs.Prelude.{◌≡◌, ℕ, List, [], ◌∷◌, ◌++◌, codes, decimal}
+use Rattle.mk_bundle.specs.declared.read.BundleRefusal.{BundleRefusal}
+use Rattle.mk_bundle.specs.declared.read.BundleRefusal.TheVariants as bundle
 use Rattle.mk_top.specs.declared.status.Status.{Status}
 use Rattle.mk_top.specs.declared.status.Status.TheVariants as status
 use Rattle.mk_top.specs.declared.first.SourceRefusal.{SourceRefusal}
@@ -26,6 +28,11 @@ abbrev pub fault_of_source : SourceRefusal → Fault
 fault_of_source refusal.NotYet = fault.NotYet
 fault_of_source refusal.Memory = fault.Memory
 
+-- the fault of a refused bundle text
+abbrev pub fault_of_bundle : BundleRefusal → Fault
+fault_of_bundle (bundle.Form line) = fault.Bundle line
+fault_of_bundle bundle.Memory = fault.Memory
+
 -- the status that a fault ends with
 abbrev pub status_of : Fault → Status
 status_of fault.Words = status.Words
@@ -34,6 +41,10 @@ status_of fault.ReadFault = status.ReadFault
 status_of fault.WriteFault = status.WriteFault
 status_of fault.Memory = status.Memory
 status_of (fault.TooLong limit) = status.TooLong
+status_of (fault.Bundle line) = status.Bundle
+status_of (fault.Tile instr) = status.Refused
+status_of (fault.Operand block) = status.Refused
+status_of (fault.Output index) = status.Refused
 
 -- the line that a fault is told by
 abbrev pub fault_line : Fault → List ℕ
@@ -43,3 +54,7 @@ fault_line fault.ReadFault = codes "6 read fault\n"
 fault_line fault.WriteFault = codes "7 write fault\n"
 fault_line fault.Memory = codes "8 memory\n"
 fault_line (fault.TooLong limit) = codes "10 too long " ++ decimal limit ++ 10 ∷ []
+fault_line (fault.Bundle line) = codes "41 bundle " ++ decimal line ++ 10 ∷ []
+fault_line (fault.Tile instr) = codes "11 tile " ++ decimal instr ++ 10 ∷ []
+fault_line (fault.Operand block) = codes "12 operand " ++ decimal block ++ 10 ∷ []
+fault_line (fault.Output index) = codes "14 output " ++ decimal index ++ 10 ∷ []

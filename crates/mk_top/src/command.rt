@@ -1,16 +1,28 @@
 ghost use Rattle.std.specs.Prelude.{ℕ, IfSome, IfNone};
-ghost use Rattle.mk_top.specs.Words.{IsOrder, AsksCompile, IsNoForm};
+ghost use Rattle.mk_top.specs.Words.{IsOrder, Asks, IsNoForm};
 
 use mk_base::Words;
 
-/// The order that the words ask to compile at: `compile` and one digit in the range of orders. It
-/// takes no memory.
-pub(crate) fn order_asked(words: &Words) -> Option<u8>
-    ensures asked { IfSome result (λ order. AsksCompile words.now order) }
+/// What the words ask for.
+#[derive(Clone, Copy, Debug, PartialEq, Eq)]
+pub enum Command {
+    /// To compile a source at an order.
+    Compile { order: u8 },
+    /// To check a bundle.
+    Check,
+}
+
+/// The command that the words ask for. It takes no memory.
+pub(crate) fn command_asked(words: &Words) -> Option<Command>
+    ensures asked { IfSome result (Asks words.now) }
     ensures none { IfNone result (IsNoForm words.now) }
 {
     match words.as_slice() {
-        [name, order] if name.as_slice() == b"compile".as_slice() => order_of(order.as_slice()),
+        [name] if name.as_slice() == b"check".as_slice() => Some(Command::Check),
+        [name, order] if name.as_slice() == b"compile".as_slice() => {
+            let order = order_of(order.as_slice())?;
+            Some(Command::Compile { order })
+        }
         _ => None,
     }
 }

@@ -5,6 +5,9 @@ ghost use Rattle.std.specs.List.{range_with_len};
 ghost use Rattle.mk_code.specs.Draft.{draft_len};
 ghost use Rattle.mk_code.specs.Counting.{AllBelow};
 ghost use Rattle.mk_code.specs.Private.{Private};
+ghost use Rattle.mk_rules.specs.Sums.{AreSums};
+ghost use Rattle.mk_bundle.specs.Text.{text};
+ghost use Rattle.mk_bundle.specs.Pairs.{IsPair};
 ghost use Rattle.mk_top.specs.First.{IsProgram};
 ghost use Rattle.mk_top.specs.Chain.{sums, Laid, sum_code, sum_cert};
 ghost use Rattle.mk_top.specs.Compiled.{IsCompiled, numbers_of};
@@ -153,7 +156,9 @@ pub(crate) fn compile(alloc: Global, program: &Program, order: u8) -> Result<Bun
     ensures compiled { IfOk result (λ bundle. IsCompiled program.now order bundle.code bundle.cert) }
     ensures correct { IfOk result (λ bundle. Correct program.now order bundle.code) }
     ensures private { IfOk result (λ bundle. Private bundle.code) }
-    ensures few { IfOk result (λ bundle. (length bundle.cert.blocks ≤ 63) × (length bundle.cert.claims ≤ 1)) }
+    ensures pair { IfOk result (λ bundle. IsPair bundle.code bundle.cert) }
+    ensures sums { IfOk result (λ bundle. AreSums bundle.cert.blocks) }
+    ensures short { IfOk result (λ bundle. length (text bundle.code bundle.cert) ≤ 268435456) }
 {
     let numbers = part_numbers(alloc, program)?;
     let secrets = program.secrets.len() as u32;

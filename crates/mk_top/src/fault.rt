@@ -6,6 +6,7 @@ use crate::status::Status;
 use arrayvec::ArrayString;
 use itoa::Buffer;
 use mk_base::Memory;
+use mk_bundle::BundleRefusal;
 
 /// Why a run ends without its text.
 #[derive(Clone, Copy, Debug, PartialEq, Eq)]
@@ -22,6 +23,14 @@ pub enum Fault {
     Memory,
     /// More bytes came than this limit.
     TooLong { limit: u32 },
+    /// No bundle text goes on behind this line, counted from 1.
+    Bundle { line: u32 },
+    /// This instruction is not that of its block's template.
+    Tile { instr: u32 },
+    /// An operand of this block is not there, or not of its kind.
+    Operand { block: u32 },
+    /// This output is not the claimed value.
+    Output { index: u32 },
 }
 
 /// A fault line. It takes no memory, so that every refusal can be told.
@@ -52,6 +61,20 @@ impl From<SourceRefusal> for Fault {
     }
 }
 
+impl From<BundleRefusal> for Fault {
+    ghost use Rattle.std.specs.Prelude.{◌≡◌};
+    ghost use Rattle.mk_top.specs.Faults.{fault_of_bundle};
+
+    ghost from_gives = { λ refusal fault. fault ≡ fault_of_bundle refusal };
+
+    fn from(refusal: BundleRefusal) -> Fault {
+        match refusal {
+            BundleRefusal::Form { line } => Fault::Bundle { line },
+            BundleRefusal::Memory => Fault::Memory,
+        }
+    }
+}
+
 impl Fault {
     /// The status that it ends with.
     pub(crate) fn status(self) -> Status
@@ -64,6 +87,10 @@ impl Fault {
             Fault::WriteFault => Status::WriteFault,
             Fault::Memory => Status::Memory,
             Fault::TooLong { limit: _ } => Status::TooLong,
+            Fault::Bundle { line: _ } => Status::Bundle,
+            Fault::Tile { instr: _ } | Fault::Operand { block: _ } | Fault::Output { index: _ } => {
+                Status::Refused
+            }
         }
     }
 
@@ -78,6 +105,10 @@ impl Fault {
             Fault::WriteFault => fixed("7 write fault\n"),
             Fault::Memory => fixed("8 memory\n"),
             Fault::TooLong { limit } => numbered("10 too long ", limit),
+            Fault::Bundle { line } => numbered("41 bundle ", line),
+            Fault::Tile { instr } => numbered("11 tile ", instr),
+            Fault::Operand { block } => numbered("12 operand ", block),
+            Fault::Output { index } => numbered("14 output ", index),
         }
     }
 }

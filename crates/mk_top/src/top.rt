@@ -1,15 +1,14 @@
-ghost use Rattle.std.specs.Prelude.{◌≡◌, ◌≢◌, ◌≤◌, ◌<◌, ◌⊎◌, ℕ, Some, [], IfSome, IfOk, IfErr, OnOk, length};
+ghost use Rattle.std.specs.Prelude.{◌≡◌, ◌≢◌, ◌≤◌, ◌⊎◌, ℕ, List, Option, Some, None, [], codes, IfSome, IfOk, IfErr, OnOk, length};
 ghost use Rattle.mk_base.specs.Outside.{Rose};
-ghost use Rattle.mk_base.specs.Streams.{CameWithin, CamePast};
-ghost use Rattle.mk_top.specs.Words.{AsksCompile, IsNoForm};
-ghost use Rattle.mk_top.specs.declared.first.Program.{Program};
+ghost use Rattle.mk_top.specs.declared.command.Command.{Command};
 ghost use Rattle.mk_top.specs.declared.fault.Fault.{Fault};
-ghost use Rattle.mk_top.specs.First.{Spells};
+ghost use Rattle.mk_top.specs.Words.{Asks, IsForm, IsNoForm};
 ghost use Rattle.mk_top.specs.Faults.{status_of, fault_line};
-ghost use Rattle.mk_top.specs.Answers.{IsForm, CompilesWhole, CompilesCut, IsNoSource, source_limit, TakesWhole, TakesSome, IsOrMemory, ReadsToEnd, WritesNothing, IsAnswer, IsLimit};
-ghost use Rattle.mk_top.specs.Running.{Finished, Stopped};
+ghost use Rattle.mk_top.specs.Answers.{Compiles, Checks, Makes, Decides, Because, TakesWhole, TakesSome, Tells, answer_status, IsOrMemory, ReadsToEnd, ReadWhole, limit_of, WritesNothing, IsAnswerOf};
+ghost use Rattle.mk_top.specs.Running.{Finished, Cut, StoppedAt, Stopped};
 
-use crate::command::order_asked;
+use crate::bundle::check_bundle;
+use crate::command::{Command, command_asked};
 use crate::fault::Fault;
 use crate::source::compiled_text;
 use crate::status::Status;
@@ -37,14 +36,49 @@ fn tell<E: Sink>(err: &mut E, fault: Fault)
     let _ = write_all(err, line.as_str().as_bytes());
 }
 
-/// Carries out what the words ask.
+/// Reads a source, and writes the bundle text that it is compiled to at an order.
+fn compile_to<S: Source, O: Sink>(
+    alloc: Global,
+    order: u8,
+    src: &mut S,
+    out: &mut O,
+) -> Result<(), Fault>
+    requires { (1 ≤ order) × (order ≤ 8) }
+    ensures finished { OnOk result (Finished (Command.Compile order) (S.left src.old) (S.left src.new) (O.taken out.old) (O.taken out.new)) }
+    ensures stopped { IfErr result (StoppedAt (Command.Compile order)
+        (S.left src.old) (S.left src.new) (S.faults src.old) (S.faults src.new)
+        (O.taken out.old) (O.taken out.new) (O.faults out.old) (O.faults out.new)) }
+    ensures unwritten { IfErr result (λ fault. fault ≢ Fault.WriteFault → out.new ≡ out.old) }
+    ensures reads { S.faults src.old ≤ S.faults src.new }
+    ensures writes { O.faults out.old ≤ O.faults out.new }
+{
+    let text = compiled_text(alloc, src, order)?;
+    put(out, text.as_slice())
+}
+
+/// Reads a bundle, and writes that it is accepted.
+fn check_to<S: Source, O: Sink>(alloc: Global, src: &mut S, out: &mut O) -> Result<(), Fault>
+    ensures finished { OnOk result (Finished Command.Check (S.left src.old) (S.left src.new) (O.taken out.old) (O.taken out.new)) }
+    ensures stopped { IfErr result (StoppedAt Command.Check
+        (S.left src.old) (S.left src.new) (S.faults src.old) (S.faults src.new)
+        (O.taken out.old) (O.taken out.new) (O.faults out.old) (O.faults out.new)) }
+    ensures unwritten { IfErr result (λ fault. fault ≢ Fault.WriteFault → out.new ≡ out.old) }
+    ensures reads { S.faults src.old ≤ S.faults src.new }
+    ensures writes { O.faults out.old ≤ O.faults out.new }
+{
+    check_bundle(alloc, src)?;
+    put(out, b"accepted\n")
+}
+
+/// Carries out what the words ask for.
 fn run<S: Source, O: Sink>(
     alloc: Global,
     words: &Words,
     src: &mut S,
     out: &mut O,
 ) -> Result<(), Fault>
-    ensures finished { OnOk result (Finished words.now (S.left src.old) (S.left src.new) (O.taken out.old) (O.taken out.new)) }
+    ensures finished { OnOk result ((command : Command) × Asks words.now command
+        × Finished command (S.left src.old) (S.left src.new) (O.taken out.old) (O.taken out.new)) }
     ensures stopped { IfErr result (Stopped words.now
         (S.left src.old) (S.left src.new) (S.faults src.old) (S.faults src.new)
         (O.taken out.old) (O.taken out.new) (O.faults out.old) (O.faults out.new)) }
@@ -53,17 +87,19 @@ fn run<S: Source, O: Sink>(
     ensures reads { S.faults src.old ≤ S.faults src.new }
     ensures writes { O.faults out.old ≤ O.faults out.new }
 {
-    let order = order_asked(words).ok_or(Fault::Words)?;
-    let text = compiled_text(alloc, src, order)?;
-    put(out, text.as_slice())
+    match command_asked(words).ok_or(Fault::Words)? {
+        Command::Compile { order } => compile_to(alloc, order, src, out),
+        Command::Check => check_to(alloc, src, out),
+    }
 }
 
-/// Carries out the command that the words ask, reading from `src`, writing its text to `out` and, where
-/// the answer is not `Done`, one fault line to `err`.
+/// Carries out the command that the words ask for, reading from `src`, writing its text to `out` and,
+/// where the answer is not `Done`, one fault line to `err`.
 ///
-/// The form of the words is `compile T`, T being one digit from 1 to 8: it reads a source of at most
-/// 1,048,576 bytes and writes the bundle text of its masked code at order T. All memory is taken before
-/// the first byte is written.
+/// The forms of the words are `compile T`, T being one digit from 1 to 8, which reads a source of at
+/// most 1,048,576 bytes and writes the bundle text of its masked code at order T, and `check`, which
+/// reads a bundle text of at most 268,435,456 bytes and writes `accepted` and a line feed. All memory is
+/// taken before the first byte is written.
 pub fn mask_main<S: Source, O: Sink, E: Sink>(
     alloc: Global,
     words: &Words,
@@ -75,36 +111,36 @@ pub fn mask_main<S: Source, O: Sink, E: Sink>(
     ensures words { (result ≡ Status.Words) ⊎ IsForm words.now }
     ensures words_only { result ≡ Status.Words → IsNoForm words.now × (src.new ≡ src.old) }
 
-    // What `compile` wrote whole, or as far as the output failed: a text of the program's code, correct
-    // and private, and certificate.
-    ensures compiled { (order : ℕ) → AsksCompile words.now order → result ≡ Status.Done
-        → CompilesWhole order (S.left src.old) (O.taken out.old) (O.taken out.new) }
-    ensures cut { (order : ℕ) → AsksCompile words.now order → result ≡ Status.WriteFault
-        → CompilesCut order (S.left src.old) (O.taken out.old) (O.taken out.new) }
+    // What `compile` wrote is the text of the program's code and certificate, which is correct and private.
+    ensures compiled { (order : ℕ) → Asks words.now (Command.Compile order) → result ≡ Status.Done
+        → (written : List ℕ) × Compiles order (S.left src.old) written × TakesWhole (O.taken out.old) written (O.taken out.new) }
 
-    // Each other answer has its cause.
-    ensures source_only { result ≡ Status.Source → IfSome (S.left src.old) IsNoSource }
-    ensures too_long_only { result ≡ Status.TooLong → IfSome (S.left src.old) (λ rest. CamePast source_limit rest (S.left src.new)) }
-    ensures read_fault_only { result ≡ Status.ReadFault → Rose (S.faults src.old) (S.faults src.new) }
-    ensures write_fault_only { result ≡ Status.WriteFault → Rose (O.faults out.old) (O.faults out.new) }
-    ensures answers { IsAnswer result }
+    // What `check` accepts is private, whoever wrote it.
+    ensures checked { Asks words.now Command.Check → result ≡ Status.Done
+        → Checks (S.left src.old) × TakesWhole (O.taken out.old) (codes "accepted\n") (O.taken out.new) }
 
-    // Where the input's count of faults didn't rise, and for `Done` that of the output, the bytes of the
-    // input decide the answer, or memory was wanted.
-    ensures too_long { IsForm words.now → (Rose (S.faults src.old) (S.faults src.new) → ⊥)
-        → IfSome (S.left src.old) (λ bytes. source_limit < length bytes → IsOrMemory result Status.TooLong) }
-    ensures source { IsForm words.now → (Rose (S.faults src.old) (S.faults src.new) → ⊥)
-        → IfSome (S.left src.old) (λ bytes. length bytes ≤ source_limit → IsNoSource bytes → IsOrMemory result Status.Source) }
-    ensures done { IsForm words.now → (Rose (S.faults src.old) (S.faults src.new) → ⊥) → (Rose (O.faults out.old) (O.faults out.new) → ⊥)
-        → IfSome (S.left src.old) (λ bytes. length bytes ≤ source_limit → (p : Program) → Spells p bytes → IsOrMemory result Status.Done) }
+    // Where the output failed, it took the command's text as far as a prefix.
+    ensures cut { (command : Command) → Asks words.now command → result ≡ Status.WriteFault
+        → (written : List ℕ) × Makes command (S.left src.old) written × TakesSome (O.taken out.old) written (O.taken out.new) }
+
+    // Each answer other than `Done` has its cause, of which the fault line tells.
+    ensures because { (command : Command) → Asks words.now command → result ≢ Status.Done → (fault : Fault) × (status_of fault ≡ result)
+        × Because command (S.left src.old) (S.left src.new) (S.faults src.old) (S.faults src.new) (O.faults out.old) (O.faults out.new) fault
+        × Tells fault (E.taken err.old) (E.taken err.new) (E.faults err.old) (E.faults err.new) }
+    ensures told { result ≡ Status.Words → Tells Fault.Words (E.taken err.old) (E.taken err.new) (E.faults err.old) (E.faults err.new) }
+    ensures answers { (command : Command) → Asks words.now command → IsAnswerOf command result }
+
+    // And each cause has its answer: where no count of faults rose, the bytes of the input decide it, or
+    // memory was wanted. An answer other than `Done` doesn't depend on the output's count.
+    ensures decided { (command : Command) (answer : Option Fault) → Asks words.now command
+        → (Rose (S.faults src.old) (S.faults src.new) → ⊥)
+        → (answer ≡ None → Rose (O.faults out.old) (O.faults out.new) → ⊥)
+        → IfSome (S.left src.old) (λ bytes. Decides command bytes answer → IsOrMemory result (answer_status answer)) }
 
     // What was read, and what was written.
-    ensures read { ReadsToEnd result → IfSome (S.left src.old) (λ _. S.left src.new ≡ Some []) }
+    ensures read { (command : Command) → Asks words.now command → ReadsToEnd result → ReadWhole (limit_of command) (S.left src.old) (S.left src.new) }
     ensures output { WritesNothing result → out.new ≡ out.old }
     ensures silent { result ≡ Status.Done → err.new ≡ err.old }
-    ensures line { result ≢ Status.Done → (fault : Fault) × (status_of fault ≡ result) × IsLimit fault
-        × TakesSome (E.taken err.old) (fault_line fault) (E.taken err.new)
-        × ((Rose (E.faults err.old) (E.faults err.new) → ⊥) → TakesWhole (E.taken err.old) (fault_line fault) (E.taken err.new)) }
 {
     match run(alloc, words, src, out) {
         Ok(()) => Status::Done,

@@ -6,10 +6,12 @@ use Rattle.mk_code.specs.Private.{Private}
 use Rattle.mk_base.specs.declared.items.Memory.{Memory}
 use Rattle.mk_rules.specs.declared.cert.Bundle.{Bundle}
 use Rattle.mk_rules.specs.Claimed.{Claimed}
+use Rattle.mk_bundle.specs.Pairs.{IsPair}
 use Rattle.mk_top.specs.Chain.{sum_code, sum_cert}
 use Rattle.mk_top.specs.Correct.{Correct}
 use Rattle.mk_top.specs.Compiled.{IsCompiled, numbers_of}
-use Rattle.mk_top.proofs.SumMeaning.{program-compiled, program-correct, program-private, first-below, rest-below, answered-with, HasFew, has-few, rest-few}
+use Rattle.mk_top.proofs.SumMeaning.{program-compiled, program-correct, program-private, first-below, rest-below, answered-with}
+use Rattle.mk_top.proofs.SumText.{IsShort, HasSums, program-pair, has-sums, program-short}
 use Rattle.mk_top.proofs.compile.compile.Goals as goal
 use Rattle.mk_top.proofs.compile.compile.Goals.{After-unwrap}
 
@@ -64,9 +66,23 @@ returns-clause-private c =
     (λ code cert. Private code)
     (program-private c.args.program.now c.args.order _ _ c.requires.program c.requires.order.0 c.requires.order.1 (named at))
 
-pub returns-clause-few : goal.returns-clause-few
-returns-clause-few c =
-    let at = (goal.at.returns-clause-few c).After-unwrap in
+pub returns-clause-pair : goal.returns-clause-pair
+returns-clause-pair c =
+    let at = (goal.at.returns-clause-pair c).After-unwrap in
     answered at c.sum_bundle.result c.len-secrets.result c.len-secrets.ensures.count c.sum_bundle.ensures.code c.sum_bundle.ensures.cert
-    (λ code cert. HasFew cert)
-    (has-few _ _ (rest-few c.args.program.now c.args.order _ _ c.requires.program c.requires.order.0 c.requires.order.1 (named at)))
+        IsPair
+        (program-pair c.args.program.now c.args.order _ _ c.requires.program c.requires.order.0 c.requires.order.1 (named at))
+
+pub returns-clause-sums : goal.returns-clause-sums
+returns-clause-sums c =
+    let at = (goal.at.returns-clause-sums c).After-unwrap in
+    answered at c.sum_bundle.result c.len-secrets.result c.len-secrets.ensures.count c.sum_bundle.ensures.code c.sum_bundle.ensures.cert
+        HasSums
+        (has-sums _ _)
+
+pub returns-clause-short : goal.returns-clause-short
+returns-clause-short c =
+    let at = (goal.at.returns-clause-short c).After-unwrap in
+    answered at c.sum_bundle.result c.len-secrets.result c.len-secrets.ensures.count c.sum_bundle.ensures.code c.sum_bundle.ensures.cert
+        IsShort
+        (program-short c.args.program.now c.args.order _ _ c.requires.program c.requires.order.0 c.requires.order.1 (named at))

@@ -29,5 +29,5 @@ finish-code-requires c =
     laid-finished c.args.order c.args.secrets c.args.first c.args.rest.now (c.from-shares.result + 1) c.reserve.new.self.secrets c.lay_sum.new.builder c.in_ok-outs.outs
     c.in_ok-sum.sum.value c.in_ok-sum.sum.first c.lay_sum.new.cert.blocks n parts.4 parts.0 parts.1 parts.2 (parts.3 ∙ c.new.ensures) c.in_ok-sum.ensures.laid c.in_ok-outs.ensures in
     let fits : IsListing (finished Gf256 c.lay_sum.new.builder c.in_ok-outs.outs) =
-        subst IsListing (sym code) (sum-listing c.args.order c.args.secrets c.args.first c.args.rest.now c.requires.order.0 c.requires.order.1 c.requires.secrets c.requires.few c.requires.first c.requires.rest) in
+    subst IsListing (sym code) (sum-listing c.args.order c.args.secrets c.args.first c.args.rest.now c.requires.order.0 c.requires.order.1 c.requires.secrets c.requires.few c.requires.first c.requires.rest) in
     record { order = fits.order; outs = fits.outs; outputs = fits.outputs }
