@@ -4,5 +4,6 @@ pub mod Totals
 pub mod LeftOut
 pub mod Encodings
 pub mod Columns
+pub mod Steps
 pub mod Examples
 pub mod ColumnTest

@@ -6,4 +6,6 @@ pub mod CountingLaws
 pub mod Private
 pub mod Shares
 pub mod Columns
+pub mod Machine
+pub mod Used
 pub mod Examples

@@ -10,10 +10,12 @@ mod builder;
 mod code;
 mod instr;
 mod laws;
+mod machine;
 
 pub use builder::CodeBuilder;
 pub use code::{Code, InstrList, MapList, PositionList};
 pub use instr::Instr;
+pub use machine::{Machine, Used};
 pub use laws::{columns_law, counting_laws, encodings_law};
 
 /// The most secrets, public inputs or outputs of a code.
