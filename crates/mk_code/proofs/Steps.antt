@@ -1,16 +1,20 @@
 -- One step of a run, and what is left to do behind it.
-use Rattle.std.proofs.Common.{◌≡◌, ℕ, zero, suc, ◌+◌, ◌≤◌, ◌<◌, List, [], ◌∷◌, ◌++◌, length, take, drop, slice_index, slice_index_or, refl, sym, ◌∙◌, ap, subst, arith, add-one, drop-cons}
+use Rattle.std.proofs.Common.{◌≡◌, ℕ, zero, suc, ◌+◌, ◌*◌, ◌≤◌, ◌<◌, List, [], ◌∷◌, ◌++◌, length, take, drop, slice_index, slice_index_or, refl, sym, ◌∙◌, ap, subst, arith, add-one, drop-cons}
 use Rattle.mk_field.specs.declared.field.FieldId.{FieldId}
+use Rattle.std.proofs.lemmas.List.{drop_all}
+use Rattle.mk_field.specs.declared.field.FieldId.TheVariants.{Gf2, Gf256}
 use Rattle.mk_field.specs.declared.map.AddMap.{AddMap}
 use Rattle.mk_field.specs.Field.{size}
 use Rattle.mk_code.specs.declared.instr.Instr.{Instr}
 use Rattle.mk_code.specs.declared.instr.Instr.TheVariants.{Rnd, Const, Copy, Add, Mul, Sq, Map}
 use Rattle.mk_code.specs.declared.machine.Used.{Used}
 use Rattle.mk_code.specs.declared.machine.Used.TheVariants.{Word, Nothing}
-use Rattle.mk_code.specs.Listing.{FitsAt, AllFit}
+use Rattle.mk_code.specs.Listing.{Listing, IsListing, FitsAt, AllFit, HasMapsOnlyInBytes, inputs_len}
 use Rattle.mk_code.specs.Trace.{entry, takes, randoms, run}
-use Rattle.mk_code.specs.Counting.{AllBelow}
+use Rattle.mk_code.specs.Counting.{AllBelow, Elements}
+use Rattle.mk_code.specs.Machine.{Progress, IsProgress, next, stepped, needed, outcome}
 use Rattle.mk_code.specs.Used.{words}
+use Rattle.mk_code.proofs.Totals.{Elements-append, Elements-cons, Elements-nil}
 
 -- an instruction looks at the word only where it takes one
 pub entry-word : (field : FieldId) (maps : List AddMap) (i : Instr) (v w : ℕ) (entries : List ℕ)
@@ -77,7 +81,61 @@ AllBelow-at q [] k below all = absurd (omega arith)
 AllBelow-at q (x ∷ xs) zero below all = all.0
 AllBelow-at q (x ∷ xs) (suc k) below all = AllBelow-at q xs k (omega arith) all.1
 
--- behind the last instruction nothing is left
-pub drop-end : (is : List Instr) (k : ℕ) → length is ≤ k → drop k is ≡ []
-drop-end [] k all = ?
-drop-end (i ∷ is) k all = ?
+-- behind the last instruction the trace is whole
+pub outcome-done : (p : Progress) (tape : List ℕ) → length p.code.instrs ≤ p.at → outcome p tape ≡ p.entries
+unfolding run
+outcome-done p tape all = ap (λ (js : List Instr). run p.code.field p.code.maps js tape p.entries) (drop_all p.at p.code.instrs all)
+
+-- behind the last instruction no element of the tape is needed
+pub needed-done : (p : Progress) → length p.code.instrs ≤ p.at → needed p ≡ 0
+unfolding randoms
+needed-done p all = ap randoms (drop_all p.at p.code.instrs all)
+
+-- a step of an instruction that says how many words it took leaves the whole trace as it is
+pub outcome-step : (p : Progress) (used : Used) (word : ℕ) (tape : List ℕ) → p.at < length p.code.instrs
+    → words used ≡ takes (next p) → (words used ≡ 1 → slice_index tape 0 ≡ word)
+    → outcome (stepped p word) (drop (words used) tape) ≡ outcome p tape
+outcome-step p used word tape left took same =
+    ap (λ (n : ℕ). outcome (stepped p word) (drop n tape)) took
+    ∙ run-drop-word p.code.field p.code.maps p.code.instrs p.at word tape p.entries left (λ one. same (took ∙ one))
+
+-- and takes what it took from what is needed
+pub needed-step : (p : Progress) (used : Used) (word : ℕ) → p.at < length p.code.instrs
+    → words used ≡ takes (next p) → needed p ≡ words used + needed (stepped p word)
+needed-step p used word left took =
+    randoms-drop p.code.instrs p.at left ∙ ap (λ (n : ℕ). n + randoms (drop (p.at + 1) p.code.instrs)) (sym took)
+
+-- the next instruction fits behind the entries
+pub next-fits : (p : Progress) → IsListing p.code → IsProgress p → p.at < length p.code.instrs
+    → FitsAt p.code.field (length p.code.maps) (length p.entries) (next p)
+next-fits p listing progress left =
+    subst (λ (n : ℕ). FitsAt p.code.field (length p.code.maps) n (next p)) (sym progress.elements.count)
+    (AllFit-at p.code.field (length p.code.maps) (inputs_len p.code.order p.code.secrets p.code.publics) p.code.instrs p.at left listing.fit)
+
+-- one more element behind the others
+pub Elements-push : (q n a : ℕ) (xs : List ℕ) → Elements q n xs → a < q → Elements q (n + 1) (xs ++ a ∷ [])
+Elements-push q n a xs front below = Elements-append q n 1 xs (a ∷ []) front (Elements-cons q 0 a [] below (Elements-nil q))
+
+-- a run after one more instruction, whose value is an element
+pub IsProgress-step : (p : Progress) (a : ℕ) → IsProgress p → p.at < length p.code.instrs → a < size p.code.field
+    → IsProgress (record { code = p.code; at = p.at + 1; entries = p.entries ++ a ∷ [] })
+IsProgress-step p a progress left below = record {
+  within = omega arith;
+  elements = subst (λ (n : ℕ). Elements (size p.code.field) n (p.entries ++ a ∷ []))
+    (omega arith) (Elements-push (size p.code.field) (inputs_len p.code.order p.code.secrets p.code.publics + p.at) a p.entries progress.elements below);
+}
+
+-- the inputs are the first entries
+pub IsProgress-new : (code : Listing) (publics shares : List ℕ)
+    → Elements (size code.field) code.publics publics → Elements (size code.field) (code.secrets * (code.order + 1)) shares
+    → IsProgress (record { code = code; at = 0; entries = shares ++ publics })
+IsProgress-new code publics shares first second = record {
+  within = omega arith;
+  elements = subst (λ (n : ℕ). Elements (size code.field) n (shares ++ publics)) (omega arith)
+    (Elements-append (size code.field) (code.secrets * (code.order + 1)) code.publics shares publics second first);
+}
+
+-- an image is an element: there are maps on bytes only
+pub image-element : (field : FieldId) (maps : List AddMap) (m a : ℕ) → HasMapsOnlyInBytes field maps → m < length maps → a < 256 → a < size field
+image-element Gf2 maps m a none below byte = absurd (omega (arith, ap length none))
+image-element Gf256 maps m a some below byte = byte
