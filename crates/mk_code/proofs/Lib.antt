@@ -5,5 +5,6 @@ pub mod LeftOut
 pub mod Encodings
 pub mod Columns
 pub mod Steps
+pub mod Runs
 pub mod Examples
 pub mod ColumnTest

@@ -1,5 +1,5 @@
 -- One step of a run, and what is left to do behind it.
-use Rattle.std.proofs.Common.{◌≡◌, ℕ, zero, suc, ◌+◌, ◌*◌, ◌≤◌, ◌<◌, List, [], ◌∷◌, ◌++◌, length, take, drop, slice_index, slice_index_or, refl, sym, ◌∙◌, ap, subst, arith, add-one, drop-cons}
+use Rattle.std.proofs.Common.{◌≡◌, ℕ, zero, suc, ◌+◌, ◌*◌, ◌≤◌, ◌<◌, List, [], ◌∷◌, ◌++◌, length, take, drop, slice_index, slice_index_or, refl, sym, ◌∙◌, ap, subst, arith, add-one, drop-cons, lit<}
 use Rattle.mk_field.specs.declared.field.FieldId.{FieldId}
 use Rattle.std.proofs.lemmas.List.{drop_all}
 use Rattle.mk_field.specs.declared.field.FieldId.TheVariants.{Gf2, Gf256}
@@ -139,3 +139,8 @@ IsProgress-new code publics shares first second = record {
 pub image-element : (field : FieldId) (maps : List AddMap) (m a : ℕ) → HasMapsOnlyInBytes field maps → m < length maps → a < 256 → a < size field
 image-element Gf2 maps m a none below byte = absurd (omega (arith, ap length none))
 image-element Gf256 maps m a some below byte = byte
+
+-- 0 is an element
+pub zero-element : (field : FieldId) → 0 < size field
+zero-element Gf2 = lit< tt
+zero-element Gf256 = lit< tt

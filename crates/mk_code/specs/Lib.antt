@@ -8,4 +8,5 @@ pub mod Shares
 pub mod Columns
 pub mod Machine
 pub mod Used
+pub mod RunLaws
 pub mod Examples
