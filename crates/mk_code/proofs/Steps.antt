@@ -1,5 +1,5 @@
 -- One step of a run, and what is left to do behind it.
-use Rattle.std.proofs.Common.{◌≡◌, ℕ, zero, suc, ◌+◌, ◌*◌, ◌≤◌, ◌<◌, List, [], ◌∷◌, ◌++◌, length, take, drop, slice_index, slice_index_or, refl, sym, ◌∙◌, ap, subst, arith, add-one, drop-cons, lit<}
+use Rattle.std.proofs.Common.{◌≡◌, ℕ, zero, suc, ◌+◌, ◌*◌, ◌≤◌, ◌<◌, List, [], ◌∷◌, ◌++◌, length, drop, slice_index, slice_index_or, refl, sym, ◌∙◌, ap, subst, arith, add-one, drop-cons, lit<}
 use Rattle.mk_field.specs.declared.field.FieldId.{FieldId}
 use Rattle.std.proofs.lemmas.List.{drop_all}
 use Rattle.mk_field.specs.declared.field.FieldId.TheVariants.{Gf2, Gf256}
@@ -122,7 +122,7 @@ pub IsProgress-step : (p : Progress) (a : ℕ) → IsProgress p → p.at < lengt
 IsProgress-step p a progress left below = record {
   within = omega arith;
   elements = subst (λ (n : ℕ). Elements (size p.code.field) n (p.entries ++ a ∷ []))
-    (omega arith) (Elements-push (size p.code.field) (inputs_len p.code.order p.code.secrets p.code.publics + p.at) a p.entries progress.elements below);
+      (omega arith) (Elements-push (size p.code.field) (inputs_len p.code.order p.code.secrets p.code.publics + p.at) a p.entries progress.elements below);
 }
 
 -- the inputs are the first entries
@@ -132,7 +132,7 @@ pub IsProgress-new : (code : Listing) (publics shares : List ℕ)
 IsProgress-new code publics shares first second = record {
   within = omega arith;
   elements = subst (λ (n : ℕ). Elements (size code.field) n (shares ++ publics)) (omega arith)
-    (Elements-append (size code.field) (code.secrets * (code.order + 1)) code.publics shares publics second first);
+      (Elements-append (size code.field) (code.secrets * (code.order + 1)) code.publics shares publics second first);
 }
 
 -- an image is an element: there are maps on bytes only

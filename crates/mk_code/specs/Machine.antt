@@ -1,10 +1,10 @@
 -- How a run of a code goes on, instruction by instruction.
-use Rattle.std.specs.Prelude.{◌≡◌, ℕ, ◌+◌, ◌≤◌, ◌<◌, List, [], ◌∷◌, ◌++◌, length, drop, slice_index_or}
+use Rattle.std.specs.Prelude.{ℕ, ◌+◌, ◌≤◌, List, [], ◌∷◌, ◌++◌, length, drop, slice_index_or}
 use Rattle.mk_field.specs.Field.{size}
 use Rattle.mk_code.specs.declared.instr.Instr.{Instr}
 use Rattle.mk_code.specs.declared.instr.Instr.TheVariants.{Rnd}
 use Rattle.mk_code.specs.Listing.{Listing, inputs_len}
-use Rattle.mk_code.specs.Trace.{entry, takes, randoms, run}
+use Rattle.mk_code.specs.Trace.{entry, randoms, run}
 use Rattle.mk_code.specs.Counting.{Elements}
 
 -- a run of a code so far: how many instructions are carried out, and the entries of the trace

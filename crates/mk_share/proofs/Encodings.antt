@@ -1,5 +1,5 @@
 -- An encoding is a sharing of its value.
-use Rattle.std.proofs.Common.{◌≡◌, ℕ, suc, ◌+◌, ◌<◌, List, [], ◌∷◌, ◌++◌, length, take, slice_index, bit_xor, refl, sym, ◌∙◌, ap, arith, add-one, lit<}
+use Rattle.std.proofs.Common.{◌≡◌, ℕ, ◌+◌, ◌<◌, List, [], ◌∷◌, ◌++◌, length, take, slice_index, bit_xor, ◌∙◌, ap, arith, add-one, lit<}
 use Rattle.std.proofs.Math.Seq.{take-suc}
 use Rattle.mk_field.specs.declared.field.FieldId.{FieldId}
 use Rattle.mk_field.specs.declared.field.FieldId.TheVariants.{Gf2, Gf256}

@@ -1,5 +1,5 @@
 -- What encoding and decoding are to one another.
-use Rattle.std.specs.Prelude.{◌≡◌, ℕ, ◌+◌, List, length}
+use Rattle.std.specs.Prelude.{ℕ, ◌+◌, List, length}
 use Rattle.mk_field.specs.Sharing.{IsSharing, encoding}
 
 -- the encoding of a value by any elements is a sharing of it, one share longer than they are

@@ -36,7 +36,12 @@ fn shares_at(order: u8) -> usize
 #[test]
 fn two_shares_of_a_byte(rt: HostRuntime) {
     let sharing = encode::<Gf256, 2>(0x57, &[0x55]);
-    assert_eq!(rt; sharing, Sharing { parts: [0x02, 0x55] });
+    assert_eq!(rt;
+        sharing,
+        Sharing {
+            parts: [0x02, 0x55]
+        }
+    );
     assert_eq!(rt; decode::<Gf256, 2>(&sharing), 0x57);
 }
 

@@ -1,4 +1,4 @@
-use Rattle.std.proofs.Common.{◌≡◌, ◌+◌, ◌-◌, ◌≤◌, length, drop}
+use Rattle.std.proofs.Common.{◌≡◌, ◌+◌, ◌-◌, length, drop}
 use Rattle.mk_code.specs.Trace.{trace}
 use Rattle.mk_code.specs.Machine.{needed, outcome}
 use Rattle.mk_code.proofs.machine_tests.run_all.Given as goal

@@ -18,8 +18,7 @@ loop-element-preserved g c =
     let below : k < length xs = omega arith in
     let element : slice_index xs k < size g.F.Field.ID = All-get_or (λ (a : ℕ). a < size g.F.Field.ID) xs k 0 below c.requires in
     let sum : c.add-sum.result ≡ bit_xor (field_sum (take k xs)) (slice_index xs k) =
-    c.add-sum.ensures ∙ ap (λ (a : ℕ). bit_xor a (slice_index xs k)) c.loop-element.invariant.0 in
-    (
+    c.add-sum.ensures ∙ ap (λ (a : ℕ). bit_xor a (slice_index xs k)) c.loop-element.invariant.0 in (
       sum ∙ sym (field_sum-take xs k below),
       rw c.add-sum.ensures (sum-in_field g.F.Field.ID _ _ c.loop-element.invariant.1 element),
     )

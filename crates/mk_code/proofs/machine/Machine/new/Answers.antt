@@ -1,21 +1,15 @@
 -- The inputs are the first entries.
-use Rattle.std.proofs.Common.{rules, arith, ◌≡◌, ◌+◌, ◌≤◌, ◌<◌, ℕ, List, ◌++◌, ◌∷◌, [], length, slice_index, take, drop, IsTrue, nat_eq, refl, sym, ◌∙◌, ap, subst}
+use Rattle.std.proofs.Common.{rules, arith, ◌≡◌, ℕ, List, ◌++◌, sym, subst}
 use Rattle.std.proofs.lemmas.Grind.{common_steps}
-use Rattle.mk_field.specs.Field.{size}
-use Rattle.mk_code.specs.Counting.{Elements}
-use Rattle.mk_code.specs.Listing.{FitsAt, trace_len, inputs_len}
-use Rattle.mk_code.specs.Trace.{takes, entry}
-use Rattle.mk_code.specs.Machine.{Progress, IsProgress, next, stepped, needed, outcome}
-use Rattle.mk_code.specs.Used.{words}
+use Rattle.mk_code.specs.Machine.{IsProgress}
 use Rattle.mk_code.proofs.Steps.{IsProgress-new}
 use Rattle.mk_code.proofs.machine.Machine.new.Goals as goal
 
 pub invariant_of-result : goal.invariant_of-result
 invariant_of-result c =
-    let e : c.extend_from_slice-2.new.self.items ≡ c.args.shares.now ++ c.args.publics.now = search rules in
-    (
+    let e : c.extend_from_slice-2.new.self.items ≡ c.args.shares.now ++ c.args.publics.now = search rules in (
       subst (λ (entries : List ℕ). IsProgress (record { code = c.args.code.now; at = 0; entries = entries })) (sym e)
-      (IsProgress-new c.args.code.now c.args.publics.now c.args.shares.now c.requires.publics c.requires.shares),
+          (IsProgress-new c.args.code.now c.args.publics.now c.args.shares.now c.requires.publics c.requires.shares),
       c.trace_len.ensures.fits,
       grind (arith, common_steps),
     )

@@ -1,12 +1,7 @@
 -- An entry is an element.
-use Rattle.std.proofs.Common.{rules, arith, ◌≡◌, ◌+◌, ◌≤◌, ◌<◌, ℕ, List, ◌++◌, ◌∷◌, [], length, slice_index, take, drop, IsTrue, nat_eq, refl, sym, ◌∙◌, ap, subst}
-use Rattle.std.proofs.lemmas.Grind.{common_steps, get_or_default_zero}
+use Rattle.std.proofs.Common.{◌≡◌, ◌<◌, ℕ, length, slice_index, sym, ◌∙◌, subst}
+use Rattle.std.proofs.lemmas.Grind.{get_or_default_zero}
 use Rattle.mk_field.specs.Field.{size}
-use Rattle.mk_code.specs.Counting.{Elements}
-use Rattle.mk_code.specs.Listing.{FitsAt, trace_len, inputs_len}
-use Rattle.mk_code.specs.Trace.{takes, entry}
-use Rattle.mk_code.specs.Machine.{Progress, IsProgress, next, stepped, needed, outcome}
-use Rattle.mk_code.specs.Used.{words}
 use Rattle.mk_code.proofs.Steps.{AllBelow-at}
 use Rattle.mk_code.proofs.machine.Machine.read.Goals as goal
 

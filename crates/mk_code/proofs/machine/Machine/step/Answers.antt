@@ -1,12 +1,10 @@
 -- The next entry, and what is left to do behind it.
-use Rattle.std.proofs.Common.{rules, arith, ◌≡◌, ◌+◌, ◌≤◌, ◌<◌, ℕ, List, ◌++◌, ◌∷◌, [], length, slice_index, slice_index_or, take, drop, IsTrue, nat_eq, refl, sym, ◌∙◌, ap, subst}
-use Rattle.std.proofs.lemmas.Grind.{common_steps}
+use Rattle.std.proofs.Common.{arith, ◌≡◌, ◌<◌, ℕ, ◌++◌, ◌∷◌, [], length, slice_index_or, ◌∙◌, ap}
 use Rattle.mk_field.specs.Field.{size}
 use Rattle.mk_code.specs.declared.instr.Instr.TheVariants.{Rnd}
-use Rattle.mk_code.specs.Counting.{Elements}
-use Rattle.mk_code.specs.Listing.{FitsAt, trace_len, inputs_len}
+use Rattle.mk_code.specs.Listing.{FitsAt}
 use Rattle.mk_code.specs.Trace.{takes, entry}
-use Rattle.mk_code.specs.Machine.{Progress, IsProgress, next, stepped, needed, outcome}
+use Rattle.mk_code.specs.Machine.{Progress, next}
 use Rattle.mk_code.specs.Used.{words}
 use Rattle.mk_code.proofs.Steps.{IsProgress-step, next-fits, outcome-step, needed-step}
 use Rattle.mk_code.proofs.machine.Machine.step.Goals as goal
@@ -16,8 +14,7 @@ invariant_of-self c =
     let m = c.self.inside in
     let p : Progress = record { code = m.code.now; at = m.at; entries = m.entries.items } in
     let left : m.at < length m.code.now.instrs = rw (← c.self.view_is) at c.requires.left in
-    let element : c.value-value.result < size m.code.now.field = rw (← c.self.view_is) at c.value-value.ensures.element in
-    (
+    let element : c.value-value.result < size m.code.now.field = rw (← c.self.view_is) at c.value-value.ensures.element in (
       rw c.push_reserved.ensures.items (IsProgress-step p c.value-value.result c.self.invariant.0 left element),
       c.self.invariant.1,
       omega (arith, c.push_reserved.ensures.capacity, c.self.invariant.2),
