@@ -1,15 +1,15 @@
 -- One step of a run, and what is left to do behind it.
-use Rattle.std.proofs.Common.{◌≡◌, ℕ, zero, suc, ◌+◌, ◌*◌, ◌≤◌, ◌<◌, List, [], ◌∷◌, ◌++◌, length, drop, slice_index, slice_index_or, refl, sym, ◌∙◌, ap, subst, arith, add-one, drop-cons, lit<}
+use Rattle.std.proofs.Common.{◌≡◌, ℕ, zero, suc, ◌+◌, ◌*◌, ◌≤◌, ◌<◌, List, [], ◌∷◌, ◌++◌, length, drop, slice_index, slice_index_or, All, refl, sym, ◌∙◌, ap, subst, arith, add-one, drop-cons, lit<}
 use Rattle.mk_field.specs.declared.field.FieldId.{FieldId}
 use Rattle.std.proofs.lemmas.List.{drop_all}
+use Rattle.std.proofs.lemmas.List.Elements.{All-from_get_or}
 use Rattle.mk_field.specs.declared.field.FieldId.TheVariants.{Gf2, Gf256}
 use Rattle.mk_field.specs.declared.map.AddMap.{AddMap}
 use Rattle.mk_field.specs.Field.{size}
 use Rattle.mk_code.specs.declared.instr.Instr.{Instr}
 use Rattle.mk_code.specs.declared.instr.Instr.TheVariants.{Rnd, Const, Copy, Add, Mul, Sq, Map}
 use Rattle.mk_code.specs.declared.machine.Used.{Used}
-use Rattle.mk_code.specs.declared.machine.Used.TheVariants.{Word, Nothing}
-use Rattle.mk_code.specs.Listing.{Listing, IsListing, FitsAt, AllFit, HasMapsOnlyInBytes, inputs_len}
+use Rattle.mk_code.specs.Listing.{Listing, IsListing, FitsAt, AllFit, inputs_len}
 use Rattle.mk_code.specs.Trace.{entry, takes, randoms, run}
 use Rattle.mk_code.specs.Counting.{AllBelow, Elements}
 use Rattle.mk_code.specs.Machine.{Progress, IsProgress, next, stepped, needed, outcome}
@@ -26,11 +26,6 @@ entry-word field maps (Add left right) v w entries same = refl
 entry-word field maps (Mul left right) v w entries same = refl
 entry-word field maps (Sq from) v w entries same = refl
 entry-word field maps (Map map from) v w entries same = refl
-
--- a step that takes a word says so
-pub words-one : (used : Used) → words used ≡ 1 → used ≡ Word
-words-one Word e = refl
-words-one Nothing e = absurd (omega arith)
 
 -- the instructions from the k-th on: it, and the ones behind it
 pub drop-next : (is : List Instr) (k : ℕ) → k < length is → drop k is ≡ slice_index_or is k Rnd ∷ drop (k + 1) is
@@ -135,12 +130,17 @@ IsProgress-new code publics shares first second = record {
       (Elements-append (size code.field) (code.secrets * (code.order + 1)) code.publics shares publics second first);
 }
 
--- an image is an element: there are maps on bytes only
-pub image-element : (field : FieldId) (maps : List AddMap) (m a : ℕ) → HasMapsOnlyInBytes field maps → m < length maps → a < 256 → a < size field
-image-element Gf2 maps m a none below byte = absurd (omega (arith, ap length none))
-image-element Gf256 maps m a some below byte = byte
-
 -- 0 is an element
 pub zero-element : (field : FieldId) → 0 < size field
 zero-element Gf2 = lit< tt
 zero-element Gf256 = lit< tt
+
+-- numbers below q, said of each element
+pub All-below : (q : ℕ) (xs : List ℕ) → AllBelow q xs → All (λ a. a < q) xs
+All-below q xs below = All-from_get_or (λ (a : ℕ). a < q) xs 0 (λ k lt. AllBelow-at q xs k lt below)
+
+-- and back
+pub AllBelow-all : (q : ℕ) (xs : List ℕ) → All (λ a. a < q) xs → AllBelow q xs
+unfolding AllBelow
+AllBelow-all q [] all = tt
+AllBelow-all q (x ∷ xs) all = (all 0 0 (omega arith), AllBelow-all q xs (λ k d lt. all (suc k) d (omega arith)))
