@@ -43,6 +43,7 @@ fn two_shares_of_a_byte(rt: HostRuntime) {
         }
     );
     assert_eq!(rt; decode::<Gf256, 2>(&sharing), 0x57);
+    assert_eq!(rt; round_trip::<Gf256, 3>(0x57, &[0x83, 0x13]), 0x57);
 }
 
 #[test]
