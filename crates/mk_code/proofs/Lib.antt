@@ -4,5 +4,7 @@ pub mod Totals
 pub mod LeftOut
 pub mod Encodings
 pub mod Columns
+pub mod Steps
+pub mod Runs
 pub mod Examples
 pub mod ColumnTest

@@ -6,4 +6,7 @@ pub mod CountingLaws
 pub mod Private
 pub mod Shares
 pub mod Columns
+pub mod Machine
+pub mod Used
+pub mod RunLaws
 pub mod Examples

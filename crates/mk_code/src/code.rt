@@ -128,7 +128,8 @@ impl Code {
 
     /// How many entries the trace of a run has.
     pub fn trace_len(&self) -> u32
-        ensures { result ≡ trace_len self.now }
+        ensures value { result ≡ trace_len self.now }
+        ensures fits { IsListing self.now }
     {
         self.secrets * (u32::from(self.order) + 1) + self.publics + self.instrs.len() as u32
     }

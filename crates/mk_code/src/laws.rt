@@ -1,8 +1,11 @@
 ghost use Rattle.mk_field.specs.declared.field.FieldId.{FieldId};
+ghost use Rattle.std.specs.Prelude.{List};
+ghost use Rattle.mk_field.specs.declared.map.AddMap.{AddMap};
 ghost use Rattle.mk_code.specs.Listing.{Listing};
 ghost use Rattle.mk_code.specs.Private.{Private};
 ghost use Rattle.mk_code.specs.CountingLaws.{CountingLaws};
 ghost use Rattle.mk_code.specs.Shares.{EncodingLaw, EncodingsLaw};
+ghost use Rattle.mk_code.specs.RunLaws.{RunLaws};
 ghost use Rattle.mk_code.specs.Columns.{HasColumns};
 
 /// The laws of totals over all lists of elements. It does nothing.
@@ -21,4 +24,9 @@ pub fn encodings_law()
 /// The law of columns: code that works share by share is private. It does nothing.
 pub fn columns_law()
     ensures { (code : Listing) → HasColumns code → Private code }
+{}
+
+/// The laws of runs: how a run is made of runs of parts. It does nothing.
+pub fn run_laws()
+    ensures { (field : FieldId) (maps : List AddMap) → RunLaws field maps }
 {}

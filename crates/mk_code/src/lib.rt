@@ -10,11 +10,15 @@ mod builder;
 mod code;
 mod instr;
 mod laws;
+mod machine;
+#[cfg(test)]
+mod machine_tests;
 
 pub use builder::CodeBuilder;
 pub use code::{Code, InstrList, MapList, PositionList};
 pub use instr::Instr;
-pub use laws::{columns_law, counting_laws, encodings_law};
+pub use laws::{columns_law, counting_laws, encodings_law, run_laws};
+pub use machine::{Machine, Used};
 
 /// The most secrets, public inputs or outputs of a code.
 pub const MOST_INPUTS: u32 = 65_536;

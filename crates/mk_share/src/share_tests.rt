@@ -1,0 +1,85 @@
+//! Worked values, with few and with many shares, over both fields.
+ghost use Rattle.std.specs.Prelude.{◌≡◌, ◌+◌, ◌≤◌, ◌<◌, All, length};
+ghost use Rattle.mk_field.specs.Field.{size};
+
+use crate::{Bank, Sharing, decode, encode, encoding_law, with_order};
+use mk_field::{Field, Gf2, Gf256};
+
+/// The value of its encoding.
+fn round_trip<F: Field, const N: usize>(value: u8, tape: &[u8]) -> u8
+    requires least { 2 ≤ N }
+    requires most { N ≤ 256 }
+    requires value { value < size F.ID }
+    requires count { length tape.now + 1 ≡ N }
+    requires elements { All (λ a. a < size F.ID) tape.now }
+    ensures { result ≡ value }
+{
+    decode::<F, N>(&encode::<F, N>(value, tape))
+}
+
+/// The number of shares, by its type.
+fn shares<F: Field, const N: usize>() -> usize
+    ensures { result ≡ N }
+{
+    N
+}
+
+/// How many shares a value has at an order.
+fn shares_at(order: u8) -> usize
+    requires least { 1 ≤ order }
+    requires most { order ≤ 8 }
+    ensures { result ≡ order + 1 }
+{
+    with_order!(order, shares::<Gf256>())
+}
+
+#[test]
+fn two_shares_of_a_byte(rt: HostRuntime) {
+    let sharing = encode::<Gf256, 2>(0x57, &[0x55]);
+    assert_eq!(rt;
+        sharing,
+        Sharing {
+            parts: [0x02, 0x55]
+        }
+    );
+    assert_eq!(rt; decode::<Gf256, 2>(&sharing), 0x57);
+    assert_eq!(rt; round_trip::<Gf256, 3>(0x57, &[0x83, 0x13]), 0x57);
+}
+
+#[test]
+fn three_shares_of_a_bit(rt: HostRuntime) {
+    let sharing = encode::<Gf2, 3>(1, &[1, 1]);
+    assert_eq!(rt; sharing, Sharing { parts: [1, 1, 1] });
+    assert_eq!(rt; decode::<Gf2, 3>(&sharing), 1);
+    assert_eq!(rt; round_trip::<Gf2, 3>(0, &[1, 0]), 0);
+}
+
+#[test]
+fn nine_shares(rt: HostRuntime) {
+    let byte = encode::<Gf256, 9>(0x53, &[1, 2, 4, 8, 16, 32, 64, 128]);
+    assert_eq!(rt; byte.parts, [0xac, 1, 2, 4, 8, 16, 32, 64, 128]);
+    assert_eq!(rt; decode::<Gf256, 9>(&byte), 0x53);
+    let bit = encode::<Gf2, 9>(1, &[1, 0, 1, 1, 0, 0, 1, 1]);
+    assert_eq!(rt; bit.parts, [0, 1, 0, 1, 1, 0, 0, 1, 1]);
+    assert_eq!(rt; decode::<Gf2, 9>(&bit), 1);
+}
+
+#[test]
+fn most_shares(rt: HostRuntime) {
+    let byte = encode::<Gf256, 256>(0x57, &[0x80; 255]);
+    assert_eq!(rt; byte.parts[0], 0xd7);
+    assert_eq!(rt; byte.parts[255], 0x80);
+    assert_eq!(rt; decode::<Gf256, 256>(&byte), 0x57);
+    assert_eq!(rt; round_trip::<Gf2, 256>(1, &[1; 255]), 1);
+}
+
+#[test]
+fn one_share_more_than_the_order(rt: HostRuntime) {
+    for order in 1..=8 {
+        assert_eq!(rt; shares_at(order), usize::from(order) + 1);
+    }
+    let bank = Bank { regs: [3, 5] };
+    let again = bank;
+    assert_eq!(rt; bank, again);
+    encoding_law();
+}
