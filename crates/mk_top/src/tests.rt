@@ -1,8 +1,16 @@
 //! Rows of the top call: what is read, and what is answered, written and told.
 
+ghost use Rattle.std.specs.Prelude.{None};
+
 use super::*;
-use mk_base::{Bytes, Items, MemSink, MemSource, Memory, Words};
+use crate::compile::compile;
+use crate::first::read_first;
+use mk_base::{Bytes, Failed, Items, MemSink, MemSource, Memory, Source, Words};
+use mk_bundle::{MOST_BYTES, read_bundle, to_text};
+use mk_rules::Bundle;
 use std::alloc::Global;
+use std::marker::Model;
+use std::test::*;
 
 /// A sum of two secrets, and the bundle text of its code at order 1.
 const SUM: &str = "field gf256;\nsecret a;\nsecret b;\noutput y;\ny = a + b;\n";
@@ -118,13 +126,16 @@ fn other_words_are_refused(rt: HostRuntime) -> Result<(), Memory> {
         out: "",
         err: "21 words\n",
     };
-    let rows: [&[&str]; 6] = [
+    let rows: [&[&str]; 9] = [
         &["compile", "0"],
         &["compile", "9"],
         &["compile", "01"],
         &["compile"],
         &[],
         &["compile", "x"],
+        &["check", "1"],
+        &["check", "check"],
+        &["Check"],
     ];
     // The first read would fail: nothing is read.
     let unread = Outside {
@@ -184,5 +195,196 @@ fn faults_of_the_outside_are_told(rt: HostRuntime) -> Result<(), Memory> {
         ..CALM
     };
     assert!(rt; answers(alloc, &compile, long.as_slice(), &wide, &too_long)?);
+    Ok(())
+}
+
+/// A bundle whose block is a product.
+const PRODUCT_BUNDLE: &str =
+    "mask 1\nfield gf2\norder 1\nsecrets 2\npublics 0\nblock mul s0 s1\nclaim b0\ncode\nrnd\nmul 0 3\nadd 4 5\nmul 1 2\nadd 6 7\nmul 0 2\nadd 9 4\nmul 1 3\nadd 11 8\nout 10 12\nend\n";
+
+#[test]
+fn bundles_are_checked(rt: HostRuntime) -> Result<(), Memory> {
+    let alloc = rt.alloc();
+    let accepted = Answer {
+        status: Status::Done,
+        out: "accepted\n",
+        err: "",
+    };
+    assert!(rt; answers(alloc, &["check"], SUM_BUNDLE.as_bytes(), &CALM, &accepted)?);
+    assert!(rt; answers(alloc, &["check"], TWICE_BUNDLE.as_bytes(), &CALM, &accepted)?);
+    assert!(rt; answers(alloc, &["check"], PRODUCT_BUNDLE.as_bytes(), &CALM, &NOT_YET)?);
+    // The sum of two secrets, with one line changed, left out or added.
+    let rows = [
+        (
+            "mask 1\nfield gf256\norder 9\nsecrets 2\npublics 0\nblock add s0 s1\nclaim b0\ncode\nadd 0 2\nadd 1 3\nout 4 5\nend\n",
+            Status::Bundle,
+            "41 bundle 3\n",
+        ),
+        (
+            "mask 1\nfield gf256\norder 1\nsecrets 2\npublics 0\nblock add s0 s1\nclaim b0\ncode\nadd 0 2\nadd 1 3\nout 4 5\n",
+            Status::Bundle,
+            "41 bundle 12\n",
+        ),
+        (
+            "mask 1\nfield gf256\norder 1\nsecrets 2\npublics 0\nblock add s0 s1\nclaim b0\ncode\nadd 00 2\nadd 1 3\nout 4 5\nend\n",
+            Status::Bundle,
+            "41 bundle 9\n",
+        ),
+        (
+            "mask 1\nfield gf256\norder 1\nsecrets 2\npublics 0\nblock add s0 s1\nclaim b0\ncode\nadd 0 2\nadd 1 3\nout 4 5\nend\nend\n",
+            Status::Bundle,
+            "41 bundle 13\n",
+        ),
+        ("", Status::Bundle, "41 bundle 1\n"),
+        (
+            "mask 1\nfield gf256\norder 1\nsecrets 2\npublics 0\nblock add s0 s2\nclaim b0\ncode\nadd 0 2\nadd 1 3\nout 4 5\nend\n",
+            Status::Refused,
+            "12 operand 0\n",
+        ),
+        (
+            "mask 1\nfield gf256\norder 1\nsecrets 2\npublics 0\nblock add s0 s1\nclaim b0\ncode\nadd 0 2\nadd 1 2\nout 4 5\nend\n",
+            Status::Refused,
+            "11 tile 1\n",
+        ),
+        (
+            "mask 1\nfield gf256\norder 1\nsecrets 2\npublics 0\nblock add s0 s1\nclaim s0\ncode\nadd 0 2\nadd 1 3\nout 4 5\nend\n",
+            Status::Refused,
+            "14 output 0\n",
+        ),
+    ];
+    for (text, status, err) in rows {
+        let refused = Answer {
+            status,
+            out: "",
+            err,
+        };
+        assert!(rt; answers(alloc, &["check"], text.as_bytes(), &CALM, &refused)?);
+    }
+    let read = Outside {
+        reads: &[2],
+        ..CALM
+    };
+    let read_fault = Answer {
+        status: Status::ReadFault,
+        out: "",
+        err: "6 read fault\n",
+    };
+    assert!(rt; answers(alloc, &["check"], SUM_BUNDLE.as_bytes(), &read, &read_fault)?);
+    let write = Outside {
+        piece: 4,
+        writes: &[2],
+        ..CALM
+    };
+    let write_fault = Answer {
+        status: Status::WriteFault,
+        out: "acce",
+        err: "7 write fault\n",
+    };
+    assert!(rt; answers(alloc, &["check"], SUM_BUNDLE.as_bytes(), &write, &write_fault)?);
+    Ok(())
+}
+
+/// So many bytes, whatever the buffers hold, none of which is kept.
+#[derive(Drop)]
+struct Plenty {
+    left: u32,
+}
+
+impl Model for Plenty {
+    ghost use Rattle.std.specs.Prelude.{ℕ};
+
+    ghost Value = { ℕ };
+
+    ghost view = { λ s. s.left };
+}
+
+impl Source for Plenty {
+    ghost left = { λ _. None };
+
+    ghost faults = { λ _. 0 };
+
+    fn read(&mut self, buf: &mut [u8]) -> Result<usize, Failed> {
+        let count = buf.len().min(self.left as usize);
+        self.left -= count as u32;
+        Ok(count)
+    }
+}
+
+#[test]
+fn bundles_that_are_too_long_are_refused(rt: HostRuntime) -> Result<(), Memory> {
+    let alloc = rt.alloc();
+    let words = words_of(alloc, &["check"])?;
+    let mut src = Plenty { left: 268_435_457 };
+    let mut out = MemSink::new(alloc, 4096, 4096, &[])?;
+    let mut err = MemSink::new(alloc, 4096, 4096, &[])?;
+    let status = mask_main(alloc, &words, &mut src, &mut out, &mut err);
+    assert!(rt; status == Status::TooLong);
+    assert!(rt; out.taken().is_empty());
+    assert!(rt; err.taken() == "10 too long 268435456\n".as_bytes());
+    Ok(())
+}
+
+/// A sum of 64 parts over 64 secrets.
+fn longest_sum(alloc: Global) -> Result<String, Memory> {
+    let letters = "abcdefgh";
+    let mut source = String::new(alloc);
+    source.push_str("field gf256;\n")?;
+    for first in letters.chars() {
+        for second in letters.chars() {
+            source.push_str("secret ")?;
+            source.push(first)?;
+            source.push(second)?;
+            source.push_str(";\n")?;
+        }
+    }
+    source.push_str("output y;\ny = aa")?;
+    for first in letters.chars() {
+        for second in letters.chars() {
+            if first != 'a' || second != 'a' {
+                source.push_str(" + ")?;
+                source.push(first)?;
+                source.push(second)?;
+            }
+        }
+    }
+    source.push_str(";\n")?;
+    Ok(source)
+}
+
+/// Whether two pairs are the same.
+fn is_same_pair(left: &Bundle, right: &Bundle) -> bool {
+    left.code.field() == right.code.field()
+        && left.code.order() == right.code.order()
+        && left.code.secrets() == right.code.secrets()
+        && left.code.publics() == right.code.publics()
+        && left.code.maps().is_empty()
+        && right.code.maps().is_empty()
+        && left.code.instrs().as_slice() == right.code.instrs().as_slice()
+        && left.code.outs().as_slice() == right.code.outs().as_slice()
+        && left.cert.blocks().as_slice() == right.cert.blocks().as_slice()
+        && left.cert.claims().as_slice() == right.cert.claims().as_slice()
+}
+
+#[test]
+fn what_is_compiled_is_read_back_and_accepted(rt: HostRuntime) -> Result<(), Fail> {
+    let alloc = rt.alloc();
+    let long = longest_sum(alloc).ok().ok_or("there is memory")?;
+    let accepted = Answer {
+        status: Status::Done,
+        out: "accepted\n",
+        err: "",
+    };
+    for source in [SUM, TWICE, long.as_str()] {
+        for order in [1, 3, 8] {
+            let program = read_first(alloc, source.as_bytes()).ok().ok_or("it is a program")?;
+            let bundle = compile(alloc, &program, order).ok().ok_or("there is memory")?;
+            let text = to_text(alloc, &bundle.code, &bundle.cert).ok().ok_or("there is memory")?;
+            let again = read_bundle(alloc, text.as_slice()).ok().ok_or("it is a bundle")?;
+            assert!(rt; is_same_pair(&bundle, &again));
+            let wide = Outside { piece: 4096, ..CALM };
+            let answer = answers(alloc, &["check"], text.as_slice(), &wide, &accepted);
+            assert!(rt; answer.ok() == Some(true));
+        }
+    }
     Ok(())
 }
