@@ -23,6 +23,7 @@ compiles-given None after bytes written order read c = record {
   private = c.private;
   pair = c.pair;
   bytes = c.bytes;
+  accepted = c.accepted;
   checks = c.checks;
 }
 compiles-given (Some rest) after bytes written order read c = record {
@@ -35,6 +36,7 @@ compiles-given (Some rest) after bytes written order read c = record {
   private = c.private;
   pair = c.pair;
   bytes = c.bytes;
+  accepted = c.accepted;
   checks = c.checks;
 }
 

@@ -42,38 +42,6 @@ IsNoSource bytes = (p : Program) → Spells p bytes → ⊥
 abbrev pub IsAccepted : Listing → Claimed → Type 0
 IsAccepted code cert = (product refresh : Gadget) → Accepts code product refresh cert
 
--- A source, given where the input tells its bytes, was compiled at this order to this text: one program
--- spells the bytes, and the text is that of a code and a certificate which are the program's. The code
--- is correct for the program and private, and `check` accepts the text: it is within its limit, its
--- blocks are sums, and the rule accepts it.
-pub record Compiles (order : ℕ) (given : Option (List ℕ)) (written : List ℕ) : Type 0 where
-  pub program : Program
-  pub code : Listing
-  pub cert : Claimed
-  pub source : IfSome given (SpelledBy program)
-  pub compiled : IsCompiled program order code cert
-  pub correct : Correct program order code
-  pub private : Private code
-  pub pair : IsPair code cert
-  pub bytes : written ≡ text code cert
-  pub checks : (length written ≤ limit_of Check) × AreSums cert.blocks × IsAccepted code cert
-
--- A bundle, given where the input tells its bytes, was checked: the bytes are the text of a code and a
--- certificate, whoever wrote them, the rule accepts the code with its certificate, and it is private.
-pub record Checks (given : Option (List ℕ)) : Type 0 where
-  pub code : Listing
-  pub cert : Claimed
-  pub pair : IsPair code cert
-  pub bundle : IfSome given (λ bytes. bytes ≡ text code cert)
-  pub sums : AreSums cert.blocks
-  pub accepted : IsAccepted code cert
-  pub private : Private code
-
--- what a command made of its input, and the text that it writes
-abbrev pub Makes : Command → Option (List ℕ) → List ℕ → Type 0
-Makes (Compile order) given written = Compiles order given written
-Makes Check given written = Checks given × (written ≡ codes "accepted\n")
-
 -- the output took this whole text, where it tells what it took
 abbrev pub TakesWhole : Option (List ℕ) → List ℕ → Option (List ℕ) → Type 0
 TakesWhole before written after = IfSome before (λ taken. after ≡ Some (taken ++ written))
@@ -122,8 +90,42 @@ abbrev pub Decides : Command → List ℕ → Option Fault → Type 0
 Decides command bytes (Some (TooLong limit)) = (limit ≡ limit_of command) × (limit < length bytes)
 Decides command bytes answer = (length bytes ≤ limit_of command) × TextDecides command bytes answer
 
+-- A source, given where the input tells its bytes, was compiled at this order to this text: one program
+-- spells the bytes, and the text is that of a code and a certificate which are the program's. The code
+-- is correct for the program and private, the rule accepts it with the certificate, and the bytes of the
+-- text decide that `check` has no fault.
+pub record Compiles (order : ℕ) (given : Option (List ℕ)) (written : List ℕ) : Type 0 where
+  pub program : Program
+  pub code : Listing
+  pub cert : Claimed
+  pub source : IfSome given (SpelledBy program)
+  pub compiled : IsCompiled program order code cert
+  pub correct : Correct program order code
+  pub private : Private code
+  pub pair : IsPair code cert
+  pub bytes : written ≡ text code cert
+  pub accepted : IsAccepted code cert
+  pub checks : Decides Check written None
+
+-- A bundle, given where the input tells its bytes, was checked: the bytes are the text of a code and a
+-- certificate, whoever wrote them, the rule accepts the code with its certificate, and it is private.
+pub record Checks (given : Option (List ℕ)) : Type 0 where
+  pub code : Listing
+  pub cert : Claimed
+  pub pair : IsPair code cert
+  pub bundle : IfSome given (λ bytes. bytes ≡ text code cert)
+  pub sums : AreSums cert.blocks
+  pub accepted : IsAccepted code cert
+  pub private : Private code
+
+-- what a command made of its input, and the text that it writes
+abbrev pub Makes : Command → Option (List ℕ) → List ℕ → Type 0
+Makes (Compile order) given written = Compiles order given written
+Makes Check given written = Checks given × (written ≡ codes "accepted\n")
+
 -- Why a command answers a fault. Reading and writing fail only where the input's, the output's count of
--- faults rose, reading only while no more bytes than the limit came; want of memory is free, and the bytes of the input decide every other fault.
+-- faults rose, reading only while no more bytes than the limit came; want of memory is free, and the
+-- bytes of the input decide every other fault.
 abbrev pub Because : Command → Option (List ℕ) → Option (List ℕ) → ℕ → ℕ → ℕ → ℕ → Fault → Type 0
 Because command given after reads then_reads writes then_writes ReadFault =
     Rose reads then_reads × IfSome given (λ bytes. CameWithin (limit_of command) bytes after)
