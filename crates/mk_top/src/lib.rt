@@ -1,4 +1,5 @@
-//! The compiler: it reads source texts, and finds the programs that they spell.
+//! The top call: it carries out the command that its words ask for, `compile` or `check`, from the bytes
+//! that are read to the bytes that are written, and promises what the answer means.
 #![tactic(auto)]
 
 mod bundle;
