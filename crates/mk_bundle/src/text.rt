@@ -26,9 +26,12 @@ pub fn to_text(alloc: Global, code: &Code, cert: &Cert) -> Result<Bytes, Memory>
 {
     let mut text = String::new(alloc);
     push_head(&mut text, code)?;
-    push_maps(&mut text, code.maps().as_slice())?;
-    push_blocks(&mut text, cert.blocks().as_slice())?;
-    push_claims(&mut text, cert.claims().as_slice())?;
+    let maps = code.maps().as_slice();
+    push_maps(&mut text, maps)?;
+    let blocks = cert.blocks().as_slice();
+    push_blocks(&mut text, blocks)?;
+    let claims = cert.claims().as_slice();
+    push_claims(&mut text, claims)?;
     text.push_str("code\n")?;
     push_instrs(&mut text, code.instrs().as_slice())?;
     push_outs(

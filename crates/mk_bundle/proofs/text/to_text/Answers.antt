@@ -11,9 +11,9 @@ returns-clause-pair c =
     let cert = c.args.cert.now in
     let pair : IsPair code cert = record {
       listing = c.in_ok-push_head.ensures.fits;
-      maps = subst (AllByRecursion MapFits) (c.as_slice.ensures.items ∙ c.maps.ensures) c.in_ok-push_maps.ensures.fits;
-      blocks = subst (AllByRecursion OpFits) (c.as_slice-2.ensures.items ∙ c.blocks-2.ensures) c.in_ok-push_blocks.ensures.fits;
-      claims = subst (AllByRecursion OperandFits) (c.as_slice-3.ensures.items ∙ c.claims.ensures) c.in_ok-push_claims.ensures.fits;
+      maps = subst (AllByRecursion MapFits) (c.as_slice-maps.ensures.items ∙ c.maps.ensures) c.in_ok-push_maps.ensures.fits;
+      blocks = subst (AllByRecursion OpFits) (c.as_slice-blocks.ensures.items ∙ c.blocks-2.ensures) c.in_ok-push_blocks.ensures.fits;
+      claims = subst (AllByRecursion OperandFits) (c.as_slice-claims.ensures.items ∙ c.claims.ensures) c.in_ok-push_claims.ensures.fits;
       few_blocks = c.requires.blocks;
       few_claims = c.requires.claims;
     } in
