@@ -1,6 +1,8 @@
-ghost use Rattle.std.specs.Prelude.{◌≡◌, ◌++◌, OnOk, string_bytes, flat_map};
+ghost use Rattle.std.specs.Prelude.{◌≡◌, ◌<◌, length, ◌^◌, ◌++◌, OnOk, string_bytes, flat_map};
+ghost use Rattle.std.specs.List.{AllByRecursion};
 ghost use Rattle.mk_bundle.specs.Words.{hex_byte, operand_word};
 ghost use Rattle.mk_bundle.specs.CertLines.{block_line, pair_words, mapped_words, op_line, claim_line};
+ghost use Rattle.mk_bundle.specs.Pairs.{OperandFits, OpFits, MapFits};
 ghost use Rattle.mk_bundle.specs.CodeLines.{map_line, instr_line, place_word, out_line};
 
 use crate::words::{push_hex, push_operand};
@@ -11,7 +13,8 @@ use std::alloc::AllocError;
 
 /// Appends the line of a map: its images, that of bit 0 first.
 pub(crate) fn push_map(text: &mut String, map: AddMap) -> Result<(), AllocError>
-    ensures { OnOk result (string_bytes text.new ≡ string_bytes text.old ++ map_line map) }
+    ensures text { OnOk result (string_bytes text.new ≡ string_bytes text.old ++ map_line map) }
+    ensures fits { OnOk result (MapFits map) }
 {
     text.push_str("map ")?;
     push_images(text, &map.images)?;
@@ -19,8 +22,9 @@ pub(crate) fn push_map(text: &mut String, map: AddMap) -> Result<(), AllocError>
 }
 
 /// Appends elements, with nothing between them.
-fn push_images(text: &mut String, images: &[u8]) -> Result<(), AllocError>
-    ensures { OnOk result (string_bytes text.new ≡ string_bytes text.old ++ flat_map hex_byte images.now) }
+fn push_images(text: &mut String, images: &[u8; 8]) -> Result<(), AllocError>
+    ensures text { OnOk result (string_bytes text.new ≡ string_bytes text.old ++ flat_map hex_byte images.now) }
+    ensures fits { OnOk result ((length images.now ≡ 8) × AllByRecursion (λ b. b < 256) images.now) }
 {
     for image in images {
         push_hex(text, *image)?;
@@ -30,7 +34,8 @@ fn push_images(text: &mut String, images: &[u8]) -> Result<(), AllocError>
 
 /// Appends the line of a block.
 pub(crate) fn push_op(text: &mut String, op: Op) -> Result<(), AllocError>
-    ensures { OnOk result (string_bytes text.new ≡ string_bytes text.old ++ op_line op) }
+    ensures text { OnOk result (string_bytes text.new ≡ string_bytes text.old ++ op_line op) }
+    ensures fits { OnOk result (OpFits op) }
 {
     match op {
         Op::Const { value } => push_constant(text, "const", value),
@@ -51,7 +56,8 @@ pub(crate) fn push_op(text: &mut String, op: Op) -> Result<(), AllocError>
 
 /// Appends the line of a block of this kind with an element.
 fn push_constant(text: &mut String, kind: &str, value: u8) -> Result<(), AllocError>
-    ensures { OnOk result (string_bytes text.new ≡ string_bytes text.old ++ block_line kind.now (hex_byte value)) }
+    ensures text { OnOk result (string_bytes text.new ≡ string_bytes text.old ++ block_line kind.now (hex_byte value)) }
+    ensures fits { OnOk result (value < 256) }
 {
     write!(text, "block {kind} ")?;
     push_hex(text, value)?;
@@ -60,7 +66,8 @@ fn push_constant(text: &mut String, kind: &str, value: u8) -> Result<(), AllocEr
 
 /// Appends the line of a block of this kind with one operand.
 fn push_single(text: &mut String, kind: &str, arg: Operand) -> Result<(), AllocError>
-    ensures { OnOk result (string_bytes text.new ≡ string_bytes text.old ++ block_line kind.now (operand_word arg)) }
+    ensures text { OnOk result (string_bytes text.new ≡ string_bytes text.old ++ block_line kind.now (operand_word arg)) }
+    ensures fits { OnOk result (OperandFits arg) }
 {
     write!(text, "block {kind} ")?;
     push_operand(text, arg)?;
@@ -69,7 +76,8 @@ fn push_single(text: &mut String, kind: &str, arg: Operand) -> Result<(), AllocE
 
 /// Appends the line of a block of this kind with two operands.
 fn push_pair(text: &mut String, kind: &str, left: Operand, right: Operand) -> Result<(), AllocError>
-    ensures { OnOk result (string_bytes text.new ≡ string_bytes text.old ++ block_line kind.now (pair_words left right)) }
+    ensures text { OnOk result (string_bytes text.new ≡ string_bytes text.old ++ block_line kind.now (pair_words left right)) }
+    ensures fits { OnOk result (OperandFits left × OperandFits right) }
 {
     write!(text, "block {kind} ")?;
     push_operand(text, left)?;
@@ -80,7 +88,8 @@ fn push_pair(text: &mut String, kind: &str, left: Operand, right: Operand) -> Re
 
 /// Appends the line of a block of this kind with the number of a map and an operand.
 fn push_mapped(text: &mut String, kind: &str, map: u32, arg: Operand) -> Result<(), AllocError>
-    ensures { OnOk result (string_bytes text.new ≡ string_bytes text.old ++ block_line kind.now (mapped_words map arg)) }
+    ensures text { OnOk result (string_bytes text.new ≡ string_bytes text.old ++ block_line kind.now (mapped_words map arg)) }
+    ensures fits { OnOk result ((map < 2 ^ 32) × OperandFits arg) }
 {
     write!(text, "block {kind} {map} ")?;
     push_operand(text, arg)?;
@@ -89,7 +98,8 @@ fn push_mapped(text: &mut String, kind: &str, map: u32, arg: Operand) -> Result<
 
 /// Appends the line of a claim.
 pub(crate) fn push_claim(text: &mut String, value: Operand) -> Result<(), AllocError>
-    ensures { OnOk result (string_bytes text.new ≡ string_bytes text.old ++ claim_line value) }
+    ensures text { OnOk result (string_bytes text.new ≡ string_bytes text.old ++ claim_line value) }
+    ensures fits { OnOk result (OperandFits value) }
 {
     text.push_str("claim ")?;
     push_operand(text, value)?;

@@ -57,7 +57,7 @@ pub fn read_bundle(alloc: Global, text: &[u8]) -> Result<Bundle, BundleRefusal>
 {
     let mut draft = empty_draft(alloc);
     let mut rest = text;
-    let mut number = 1;
+    let mut number: u32 = 1;
     while let Some((line, behind)) = cut(rest) {
         match read_line(&mut draft, line) {
             Ok(()) => {}

@@ -1,4 +1,7 @@
 ghost use Rattle.std.specs.Prelude.{◌≡◌, ◌≤◌, ◌<◌, ◌/◌, ◌++◌, length, IfOk, OnOk, string_bytes, flat_map};
+ghost use Rattle.std.specs.List.{AllByRecursion};
+ghost use Rattle.mk_code.specs.Listing.{IsListing};
+ghost use Rattle.mk_bundle.specs.Pairs.{OperandFits, OpFits, MapFits, IsPair};
 ghost use Rattle.mk_bundle.specs.CertLines.{op_line, claim_line};
 ghost use Rattle.mk_bundle.specs.CodeLines.{map_line, instr_line, out_lines};
 ghost use Rattle.mk_bundle.specs.Text.{field_line, number_line, head_lines, text};
@@ -16,13 +19,19 @@ use std::alloc::{AllocError, Global};
 pub fn to_text(alloc: Global, code: &Code, cert: &Cert) -> Result<Bytes, Memory>
     requires blocks { length cert.now.blocks ≤ 131072 }
     requires claims { length cert.now.claims ≤ 65536 }
-    ensures { IfOk result (λ bytes. bytes ≡ text code.now cert.now) }
+    ensures text { IfOk result (λ bytes. bytes ≡ text code.now cert.now) }
+
+    // So it is read again as these.
+    ensures pair { IfOk result (λ _. IsPair code.now cert.now) }
 {
     let mut text = String::new(alloc);
     push_head(&mut text, code)?;
-    push_maps(&mut text, code.maps().as_slice())?;
-    push_blocks(&mut text, cert.blocks().as_slice())?;
-    push_claims(&mut text, cert.claims().as_slice())?;
+    let maps = code.maps().as_slice();
+    push_maps(&mut text, maps)?;
+    let blocks = cert.blocks().as_slice();
+    push_blocks(&mut text, blocks)?;
+    let claims = cert.claims().as_slice();
+    push_claims(&mut text, claims)?;
     text.push_str("code\n")?;
     push_instrs(&mut text, code.instrs().as_slice())?;
     push_outs(
@@ -47,7 +56,8 @@ fn whole(text: String) -> Result<Bytes, Memory>
 
 /// Appends the first lines: the form's version, the field, the order and the numbers of inputs.
 fn push_head(text: &mut String, code: &Code) -> Result<(), AllocError>
-    ensures { OnOk result (string_bytes text.new ≡ string_bytes text.old ++ head_lines code.now) }
+    ensures text { OnOk result (string_bytes text.new ≡ string_bytes text.old ++ head_lines code.now) }
+    ensures fits { OnOk result (IsListing code.now) }
 {
     text.push_str("mask 1\n")?;
     push_field(text, code.field())?;
@@ -75,7 +85,8 @@ fn push_field(text: &mut String, field: FieldId) -> Result<(), AllocError>
 
 /// Appends the lines of maps.
 fn push_maps(text: &mut String, maps: &[AddMap]) -> Result<(), AllocError>
-    ensures { OnOk result (string_bytes text.new ≡ string_bytes text.old ++ flat_map map_line maps.now) }
+    ensures text { OnOk result (string_bytes text.new ≡ string_bytes text.old ++ flat_map map_line maps.now) }
+    ensures fits { OnOk result (AllByRecursion MapFits maps.now) }
 {
     for map in maps {
         push_map(text, *map)?;
@@ -85,7 +96,8 @@ fn push_maps(text: &mut String, maps: &[AddMap]) -> Result<(), AllocError>
 
 /// Appends the lines of blocks.
 fn push_blocks(text: &mut String, blocks: &[Op]) -> Result<(), AllocError>
-    ensures { OnOk result (string_bytes text.new ≡ string_bytes text.old ++ flat_map op_line blocks.now) }
+    ensures text { OnOk result (string_bytes text.new ≡ string_bytes text.old ++ flat_map op_line blocks.now) }
+    ensures fits { OnOk result (AllByRecursion OpFits blocks.now) }
 {
     for op in blocks {
         push_op(text, *op)?;
@@ -95,7 +107,8 @@ fn push_blocks(text: &mut String, blocks: &[Op]) -> Result<(), AllocError>
 
 /// Appends the lines of claims.
 fn push_claims(text: &mut String, claims: &[Operand]) -> Result<(), AllocError>
-    ensures { OnOk result (string_bytes text.new ≡ string_bytes text.old ++ flat_map claim_line claims.now) }
+    ensures text { OnOk result (string_bytes text.new ≡ string_bytes text.old ++ flat_map claim_line claims.now) }
+    ensures fits { OnOk result (AllByRecursion OperandFits claims.now) }
 {
     for value in claims {
         push_claim(text, *value)?;

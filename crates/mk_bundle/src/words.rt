@@ -1,4 +1,5 @@
 ghost use Rattle.std.specs.Prelude.{◌≡◌, ◌++◌, OnOk, string_bytes};
+ghost use Rattle.mk_bundle.specs.Pairs.{OperandFits};
 ghost use Rattle.mk_bundle.specs.Words.{operand_word, hex_byte};
 
 use mk_ssa::Operand;
@@ -14,7 +15,8 @@ pub(crate) fn push_hex(text: &mut String, value: u8) -> Result<(), AllocError>
 
 /// Appends an operand: a letter for its kind, and its number.
 pub(crate) fn push_operand(text: &mut String, operand: Operand) -> Result<(), AllocError>
-    ensures { OnOk result (string_bytes text.new ≡ string_bytes text.old ++ operand_word operand) }
+    ensures text { OnOk result (string_bytes text.new ≡ string_bytes text.old ++ operand_word operand) }
+    ensures fits { OnOk result (OperandFits operand) }
 {
     match operand {
         Operand::Secret(number) => write!(text, "s{number}"),

@@ -1,7 +1,11 @@
--- What is appended for the images so far.
-use Rattle.std.proofs.Common.{◌≡◌, ◌++◌, take, flat_map, string_bytes}
+-- What is appended for the images so far, which are bytes.
+use Rattle.std.proofs.Common.{◌≡◌, ◌<◌, ◌++◌, take, flat_map, string_bytes}
+use Rattle.std.specs.List.{AllByRecursion}
 use Rattle.mk_bundle.specs.Words.{hex_byte}
 use Rattle.mk_bundle.proofs.lines.push_images.Given as goal
 
 abbrev pub invariant-loop-image : goal.invariant-loop-image
-invariant-loop-image l = string_bytes l.text ≡ string_bytes l.initial.text ++ flat_map hex_byte (take l.image-index l.images)
+invariant-loop-image l = record {
+  text : string_bytes l.text ≡ string_bytes l.initial.text ++ flat_map hex_byte (take l.image-index l.images);
+  fits : AllByRecursion (λ b. b < 256) (take l.image-index l.images);
+}

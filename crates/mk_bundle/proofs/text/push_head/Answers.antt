@@ -6,8 +6,8 @@ use Rattle.mk_bundle.specs.Text.{field_line, number_line}
 use Rattle.mk_bundle.proofs.Appended.{five_appended}
 use Rattle.mk_bundle.proofs.text.push_head.Goals as goal
 
-pub returns : goal.returns
-returns c =
+pub returns-clause-text : goal.returns-clause-text
+returns-clause-text c =
     let code = c.args.code.now in
     let field : string_bytes c.push_field.new.text ≡ string_bytes c.push_str.new.self ++ field_line code.field =
     rw c.field.ensures.value at c.in_ok-push_field.ensures in
