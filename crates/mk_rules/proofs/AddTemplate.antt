@@ -2,6 +2,7 @@
 use Rattle.std.proofs.Common.{◌≡◌, ℕ, zero, suc, ◌+◌, ◌-◌, ◌*◌, ◌<◌, ◌≤◌, List, [], ◌∷◌, ◌++◌, length, map, slice_index, bit_xor, refl, sym, ◌∙◌, ap, arith, append_assoc}
 use Rattle.std.specs.List.{range_with_len}
 use Rattle.std.proofs.lemmas.List.{length-append, append-nil, get_or_append_left, get_or-append-add}
+use Rattle.std.proofs.lemmas.List.FromFn.{length-range_with_len, get_or-range_with_len}
 use Rattle.std.proofs.lemmas.Bool.{lt-ltb, le-ltb}
 use Rattle.mk_field.specs.declared.field.FieldId.{FieldId}
 use Rattle.mk_field.specs.declared.map.AddMap.{AddMap}
@@ -71,6 +72,23 @@ placed-add n base product refresh left right xs ys first second =
     let p : placement (xs ++ ys) base i ≡ slice_index xs i = placement-left xs ys base n i first (omega arith) in
     let q : placement (xs ++ ys) base (n + i) ≡ slice_index ys i = placement-right xs ys base n i first second (omega arith) in
     cc)
+
+-- sums of banks of neighbouring places
+pub adds-ranges : (n left right : ℕ)
+    → adds n (slice_index (range_with_len left n)) (slice_index (range_with_len right n)) ≡ adds n (λ i. left + i) (λ i. right + i)
+adds-ranges n left right =
+    map-range-same _ _ 0 n
+    (λ i low high.
+    let p : slice_index (range_with_len left n) i ≡ left + i = get_or-range_with_len left n i 0 (omega arith) in
+    let q : slice_index (range_with_len right n) i ≡ right + i = get_or-range_with_len right n i 0 (omega arith) in
+    cc)
+
+-- the placed template of a sum adds two banks of neighbouring places, share by share
+pub placed-add-ranges : (n base : ℕ) (product refresh : Gadget) (a b : Operand) (left right : ℕ)
+    → placed (range_with_len left n ++ range_with_len right n) base (template n product refresh (op.Add a b)) ≡ adds n (λ i. left + i) (λ i. right + i)
+placed-add-ranges n base product refresh a b left right =
+    placed-add n base product refresh a b (range_with_len left n) (range_with_len right n) (length-range_with_len left n) (length-range_with_len right n)
+    ∙ adds-ranges n left right
 
 -- its out bank are the places of its instructions
 pub placed_outs-add : (n base : ℕ) (product refresh : Gadget) (left right : Operand) (xs ys : List ℕ) → length xs ≡ n → length ys ≡ n
