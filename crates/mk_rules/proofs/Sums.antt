@@ -1,11 +1,11 @@
 -- Blocks that are sums: their instructions and banks, whatever gadgets stand for products and refreshes;
 -- they double no value, and their code works share by share.
-use Rattle.std.proofs.Common.{◌≡◌, ℕ, zero, suc, ◌+◌, ◌-◌, ◌*◌, ◌%◌, ◌<◌, ◌≤◌, List, [], ◌∷◌, ◌++◌, length, map, slice_index, slice_index_or, slice_get, Option, Some, None, IsSomeAnd, false, if◌then◌else◌, nat_lt, refl, sym, ◌∙◌, ap, subst, arith, append_assoc, inl, inr}
+use Rattle.std.proofs.Common.{◌≡◌, ℕ, zero, suc, ◌+◌, ◌-◌, ◌*◌, ◌%◌, ◌<◌, ◌≤◌, List, [], ◌∷◌, ◌++◌, length, map, slice_index_or, slice_get, Option, Some, None, IsSomeAnd, false, if◌then◌else◌, nat_lt, refl, sym, ◌∙◌, ap, subst, arith, append_assoc, inl, inr}
 use Rattle.std.specs.List.{range_with_len, AllByRecursion}
 use Rattle.std.proofs.lemmas.Bool.{lt-ltb, le-ltb, cases_lt}
 use Rattle.std.proofs.lemmas.List.{length-append, append-nil, get_or_append_left}
 use Rattle.std.proofs.lemmas.List.Elements.{recursion_from_All}
-use Rattle.std.proofs.lemmas.List.FromFn.{length-range_with_len, length-map-range_with_len, get_or-range_with_len, get_or-map-range_with_len}
+use Rattle.std.proofs.lemmas.List.FromFn.{length-range_with_len, length-map-range_with_len, get_or-map-range_with_len}
 use Rattle.std.proofs.lemmas.Nat.{mod-mul-add}
 use Rattle.std.proofs.Math.Nat.{mul-le-mul_right}
 use Rattle.std.proofs.Math.Seq.{get_or-append_seam}
@@ -23,7 +23,7 @@ use Rattle.mk_rules.specs.Tiles.{value_number, input_banks, laid, laid_banks, re
 use Rattle.mk_rules.specs.Wired.{IsSharedThere, AllWired, Wired}
 use Rattle.mk_rules.specs.Reaches.{Link, links, Undoubled}
 use Rattle.mk_rules.specs.Sums.{IsSum, AreSums, first_share, share_sum, sum_rows, sums_of}
-use Rattle.mk_rules.proofs.AddTemplate.{adds, map-range-same, placed-add, placed_outs-add}
+use Rattle.mk_rules.proofs.AddTemplate.{placed-add-ranges, placed_outs-add}
 
 -- each block is a sum, by recursion
 abbrev pub AllSums : List Op → Type 0
@@ -82,16 +82,6 @@ AreSumBanks-more code before banks base op b =
           e ∙ ap (λ (i : ℕ). first_share code (Block i)) (sym grown);
     }
 
--- sums of banks of neighbouring places
-adds-ranges : (n left right : ℕ)
-    → adds n (slice_index (range_with_len left n)) (slice_index (range_with_len right n)) ≡ adds n (λ i. left + i) (λ i. right + i)
-adds-ranges n left right =
-    map-range-same _ _ 0 n
-    (λ i low high.
-    let p : slice_index (range_with_len left n) i ≡ left + i = get_or-range_with_len left n i 0 (omega arith) in
-    let q : slice_index (range_with_len right n) i ≡ right + i = get_or-range_with_len right n i 0 (omega arith) in
-    cc)
-
 -- what a sum reads
 reads-sum : (code : Listing) (before : List Op) (banks : List (List ℕ)) (base : ℕ) (left right : Operand) → AreSumBanks code before banks base
     → IsSharedThere code before left → IsSharedThere code before right
@@ -114,8 +104,7 @@ module _ (code : Listing) (product refresh : Gadget) where
       let ys : List ℕ = range_with_len (first_share code right) n in
       let at : reads code banks (Add left right) ≡ xs ++ ys = reads-sum code before banks base left right b wired.0.0 wired.0.1 in
       let here : placed (xs ++ ys) base (template n product refresh (Add left right)) ≡ sum_rows code (Add left right) =
-      placed-add n base product refresh left right xs ys (length-range_with_len (first_share code left) n) (length-range_with_len (first_share code right) n)
-      ∙ adds-ranges n (first_share code left) (first_share code right) in
+      placed-add-ranges n base product refresh left right (first_share code left) (first_share code right) in
       let outs : placed_outs (xs ++ ys) base (template n product refresh (Add left right)) ≡ range_with_len base n =
       placed_outs-add n base product refresh left right xs ys (length-range_with_len (first_share code left) n) (length-range_with_len (first_share code right) n) in
       let count : length (template n product refresh (Add left right)).instrs ≡ n = length-map-range_with_len _ 0 n in

@@ -1,9 +1,9 @@
 -- The blocks of a sum from the left, as instructions on banks of neighbouring places.
-use Rattle.std.proofs.Common.{◌≡◌, ℕ, zero, suc, ◌+◌, ◌*◌, ◌<◌, List, [], ◌∷◌, ◌++◌, length, map, slice_index, slice_index_or, slice_get, Some, Option, IsSomeAnd, false, refl, sym, ◌∙◌, ap, subst, arith, append_assoc}
+use Rattle.std.proofs.Common.{◌≡◌, ℕ, zero, suc, ◌+◌, ◌*◌, ◌<◌, List, [], ◌∷◌, ◌++◌, length, map, slice_index_or, slice_get, Some, Option, IsSomeAnd, false, refl, sym, ◌∙◌, ap, subst, arith, append_assoc}
 use Rattle.std.specs.List.{range_with_len}
 use Rattle.std.proofs.lemmas.List.{length-append, append-nil, get_or_append_left}
 use Rattle.std.proofs.Math.Seq.{get_or-append_seam}
-use Rattle.std.proofs.lemmas.List.FromFn.{length-range_with_len, length-map-range_with_len, get_or-range_with_len, get_or-map-range_with_len}
+use Rattle.std.proofs.lemmas.List.FromFn.{length-range_with_len, length-map-range_with_len, get_or-map-range_with_len}
 use Rattle.mk_code.specs.declared.instr.Instr.TheVariants as instr
 use Rattle.mk_code.specs.Listing.{Listing}
 use Rattle.mk_code.specs.Counting.{AllBelow}
@@ -17,18 +17,8 @@ use Rattle.mk_rules.specs.Template.{template}
 use Rattle.mk_rules.specs.Tiles.{value_number, input_banks, laid, laid_banks, reads}
 use Rattle.mk_rules.specs.Wired.{IsSharedThere, AllWired}
 use Rattle.mk_rules.specs.Reaches.{Link, links, Undoubled}
-use Rattle.mk_rules.proofs.AddTemplate.{adds, map-range-same, placed-add, placed_outs-add}
+use Rattle.mk_rules.proofs.AddTemplate.{adds, placed-add-ranges, placed_outs-add}
 use Rattle.mk_top.specs.Chain.{additions, whole, chain, last}
-
--- sums of banks of neighbouring places
-pub adds-ranges : (n left right : ℕ)
-    → adds n (slice_index (range_with_len left n)) (slice_index (range_with_len right n)) ≡ adds n (λ i. left + i) (λ i. right + i)
-adds-ranges n left right =
-    map-range-same _ _ 0 n
-    (λ i low high.
-    let p : slice_index (range_with_len left n) i ≡ left + i = get_or-range_with_len left n i 0 (omega arith) in
-    let q : slice_index (range_with_len right n) i ≡ right + i = get_or-range_with_len right n i 0 (omega arith) in
-    cc)
 
 pub length-adds : (n : ℕ) (left right : ℕ → ℕ) → length (adds n left right) ≡ n
 length-adds n left right = length-map-range_with_len (λ i. instr.Add (left i) (right i)) 0 n
@@ -76,8 +66,7 @@ laid-additions code product refresh banks value left k base (c ∷ rest) b below
     let ys : List ℕ = range_with_len (c * n) n in
     let at : reads code banks (Add value (Secret c)) ≡ xs ++ ys = reads-add code banks value left k c b below.0 in
     let here : placed (xs ++ ys) base (template n product refresh (Add value (Secret c))) ≡ adds n (λ i. left + i) (λ i. c * n + i) =
-    placed-add n base product refresh value (Secret c) xs ys (length-range_with_len left n) (length-range_with_len (c * n) n)
-    ∙ adds-ranges n left (c * n) in
+    placed-add-ranges n base product refresh value (Secret c) left (c * n) in
     let outs : placed_outs (xs ++ ys) base (template n product refresh (Add value (Secret c))) ≡ range_with_len base n =
     placed_outs-add n base product refresh value (Secret c) xs ys (length-range_with_len left n) (length-range_with_len (c * n) n) in
     let count : length (template n product refresh (Add value (Secret c))).instrs ≡ n = length-map-range_with_len _ 0 n in

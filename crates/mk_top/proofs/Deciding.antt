@@ -1,13 +1,10 @@
 -- The words ask for one command, and its input's bytes decide one answer.
-use Rattle.std.proofs.Common.{◌≡◌, ◌≢◌, ℕ, suc, ◌+◌, ◌<◌, ◌≤◌, List, [], ◌∷◌, ◌++◌, Option, Some, None, IfSome, length, inl, inr, refl, sym, ◌∙◌, ap, subst, arith, ◌⊎◌}
-use Rattle.std.specs.Prelude.{codes}
+use Rattle.std.proofs.Common.{◌≡◌, ℕ, ◌+◌, ◌<◌, ◌≤◌, List, [], ◌∷◌, ◌++◌, Option, Some, None, length, inl, inr, refl, sym, ◌∙◌, ap, subst, arith, ◌⊎◌}
 use Rattle.std.proofs.lemmas.Bool.{cases_lt}
 use Rattle.std.proofs.lemmas.List.{append-nil}
 use Rattle.mk_code.specs.Listing.{Listing}
 use Rattle.mk_rules.specs.Claimed.{Claimed}
 use Rattle.mk_rules.specs.Gadget.{Gadget}
-use Rattle.mk_rules.specs.Places.{FirstUnwired, FirstOffTile, FirstWrongOutput}
-use Rattle.mk_rules.specs.Sums.{AreSums}
 use Rattle.mk_rules.proofs.Places.{FirstUnwired-not, FirstUnwired-only, FirstMismatch-not, FirstMismatch-only, FirstWrongOutput-only}
 use Rattle.mk_rules.proofs.Claims.{FirstWrongOutput-not}
 use Rattle.mk_bundle.specs.Text.{text}
@@ -15,9 +12,9 @@ use Rattle.mk_bundle.specs.Pairs.{IsPair, IsBundleText, NamesFirst, TextsDiffer}
 use Rattle.mk_top.specs.declared.command.Command.{Command}
 use Rattle.mk_top.specs.declared.command.Command.TheVariants.{Compile, Check}
 use Rattle.mk_top.specs.declared.fault.Fault.{Fault}
-use Rattle.mk_top.specs.declared.fault.Fault.TheVariants.{Words, NotYet, ReadFault, WriteFault, Memory, TooLong, Bundle, Tile, Operand, Output}
+use Rattle.mk_top.specs.declared.fault.Fault.TheVariants.{NotYet, TooLong, Bundle, Tile, Operand, Output}
 use Rattle.mk_top.specs.Words.{Asks}
-use Rattle.mk_top.specs.Answers.{PairDecides, BundleDecides, SourceDecides, TextDecides, Decides, IsAccepted, limit_of}
+use Rattle.mk_top.specs.Answers.{PairDecides, BundleDecides, SourceDecides, TextDecides, Decides, limit_of}
 
 -- the words ask for one command
 pub asks-one : (words : List (List ℕ)) (a b : Command) → Asks words a → Asks words b → a ≡ b
@@ -85,11 +82,11 @@ source-one bytes (Some fault) b first second = absurd first
 names-one : (bytes : List ℕ) (m n : ℕ) → NamesFirst m bytes → NamesFirst n bytes → m ≡ n
 names-one bytes m n first second =
     elim (cases_lt m n) [
-        inl below ↦ absurd (first.1 (second.2 m below))
+      | inl below ↦ absurd (first.1 (second.2 m below))
       | inr above ↦ elim (cases_lt n m) [
-            inl below ↦ absurd (second.1 (first.2 n below))
-          | inr same ↦ omega (arith, above, same)
-        ]
+        | inl below ↦ absurd (second.1 (first.2 n below))
+        | inr same ↦ omega (arith, above, same)
+      ]
     ]
 
 -- what a bundle decides, by its code and certificate
@@ -116,16 +113,15 @@ within-or-long command bytes (Some (TooLong limit)) d = inl (ap (λ (l : ℕ). S
 within-or-long command bytes answer d = inr d
 
 module _ (differ : TextsDiffer) where
-
   -- equal texts are those of equal pairs, which decide one answer
   pairs-one : (bytes : List ℕ) (a b : Option Fault) → Pair bytes a → Pair bytes b → a ≡ b
   pairs-one bytes a b first second =
       let same : text first.code first.cert ≡ text second.code second.cert ++ [] =
-          sym first.bytes_are ∙ second.bytes_are ∙ sym (append-nil (text second.code second.cert)) in
+      sym first.bytes_are ∙ second.bytes_are ∙ sym (append-nil (text second.code second.cert)) in
       let equal = differ first.code second.code first.cert second.cert [] first.pair second.pair same in
       pair-one second.code second.cert a b
-          (subst (λ (k : Claimed). PairDecides second.code k a) equal.1 (subst (λ (k : Listing). PairDecides k first.cert a) equal.0 first.decides))
-          second.decides
+      (subst (λ (k : Claimed). PairDecides second.code k a) equal.1 (subst (λ (k : Listing). PairDecides k first.cert a) equal.0 first.decides))
+      second.decides
 
   -- a bundle text decides one answer
   bundle-one : (bytes : List ℕ) (a b : Option Fault) → Bundled bytes a → Bundled bytes b → a ≡ b
@@ -143,12 +139,12 @@ module _ (differ : TextsDiffer) where
   pub decides-one : (command : Command) (bytes : List ℕ) (a b : Option Fault) → Decides command bytes a → Decides command bytes b → a ≡ b
   decides-one command bytes a b first second =
       elim (within-or-long command bytes a first) [
-          inl x ↦ elim (within-or-long command bytes b second) [
-              inl y ↦ x.0 ∙ sym y.0
-            | inr y ↦ absurd (omega (arith, x.1, y.0))
-          ]
+        | inl x ↦ elim (within-or-long command bytes b second) [
+          | inl y ↦ x.0 ∙ sym y.0
+          | inr y ↦ absurd (omega (arith, x.1, y.0))
+        ]
         | inr x ↦ elim (within-or-long command bytes b second) [
-              inl y ↦ absurd (omega (arith, x.0, y.1))
-            | inr y ↦ text-one command bytes a b x.1 y.1
-          ]
+          | inl y ↦ absurd (omega (arith, x.0, y.1))
+          | inr y ↦ text-one command bytes a b x.1 y.1
+        ]
       ]

@@ -1,7 +1,6 @@
 -- What was made of a text, said of the bytes that the input gave.
-use Rattle.std.proofs.Common.{◌≡◌, ℕ, ◌≤◌, List, Option, Some, None, Result, Ok, Err, IfOk, IfErr, IfSome, OnOk, length, subst, sym, refl, ◌∙◌, ap}
+use Rattle.std.proofs.Common.{ℕ, ◌≤◌, List, Option, Some, None, Result, Ok, Err, IfOk, IfErr, IfSome, OnOk, length, subst, sym, ◌∙◌}
 use Rattle.mk_base.specs.Streams.{ReadsAll}
-use Rattle.mk_bundle.specs.Text.{text}
 use Rattle.mk_top.specs.declared.command.Command.{Command}
 use Rattle.mk_top.specs.declared.command.Command.TheVariants.{Compile, Check}
 use Rattle.mk_top.specs.declared.fault.Fault.{Fault}

@@ -61,13 +61,6 @@ Laying-all n first base rest i value place len laid made past so_far =
         empty [] none = refl
         empty (y ∷ ys) none = absurd (omega (arith, none))
 
--- an element of a list of numbers below q
-pub AllBelow-at : (q : ℕ) (xs : List ℕ) (i : ℕ) → AllBelow q xs → i < length xs → slice_index xs i < q
-unfolding AllBelow
-AllBelow-at q [] i below within = absurd (omega (arith, within))
-AllBelow-at q (x ∷ xs) zero below within = below.0
-AllBelow-at q (x ∷ xs) (suc i) below within = AllBelow-at q xs i below.1 (omega (arith, within))
-
 -- products of small numbers
 pub product-le : (a b p q : ℕ) → a ≤ p → b ≤ q → a * b ≤ p * q
 product-le a b p q low high = omega (arith, mul-le-mul_right b low, mul-le-mul_left p high)

@@ -1,8 +1,7 @@
 -- The meaning of sums, and of the code that they are compiled to, on small cases.
-use Rattle.std.proofs.Common.{◌≡◌, ℕ, List, [], ◌∷◌, refl}
+use Rattle.std.proofs.Common.{◌≡◌, [], ◌∷◌, refl}
 use Rattle.std.specs.Prelude.{codes}
 use Rattle.mk_field.specs.Sharing.{field_sum, decoded}
-use Rattle.mk_code.specs.Listing.{Listing}
 use Rattle.mk_code.specs.Trace.{trace, run}
 use Rattle.mk_code.specs.Private.{observation}
 use Rattle.mk_code.specs.declared.instr.Instr.TheVariants as instr

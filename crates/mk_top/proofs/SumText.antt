@@ -1,5 +1,5 @@
 -- The text of a sum's code and certificate: they have one, and it is short.
-use Rattle.std.proofs.Common.{◌≡◌, ℕ, zero, suc, ◌+◌, ◌-◌, ◌*◌, ◌/◌, ◌^◌, ◌<◌, ◌≤◌, List, [], ◌∷◌, ◌++◌, length, take, drop, All, refl, sym, ◌∙◌, ap, subst, arith}
+use Rattle.std.proofs.Common.{◌≡◌, ℕ, zero, suc, ◌+◌, ◌*◌, ◌/◌, ◌^◌, ◌<◌, ◌≤◌, List, [], ◌∷◌, ◌++◌, length, take, drop, sym, ◌∙◌, ap, arith}
 use Rattle.std.specs.Prelude.{decimal, codes}
 use Rattle.std.specs.List.{flat_map, AllByRecursion, range_with_len}
 use Rattle.std.proofs.lemmas.Fmt.{length-decimal-le}
@@ -15,7 +15,6 @@ use Rattle.mk_code.specs.Listing.{Listing, IsListing, FitsAt, AllFit, inputs_len
 use Rattle.mk_code.specs.Counting.{AllBelow}
 use Rattle.mk_ssa.specs.declared.Operand.{Operand}
 use Rattle.mk_ssa.specs.declared.Operand.TheVariants.{Secret, Public, Block}
-use Rattle.mk_ssa.specs.declared.Op.{Op}
 use Rattle.mk_ssa.specs.declared.Op.TheVariants.{Add}
 use Rattle.mk_rules.specs.Claimed.{Claimed}
 use Rattle.mk_rules.specs.Sums.{IsSum, AreSums}
@@ -31,7 +30,7 @@ use Rattle.std.proofs.Math.Nat.{mul-le-mul_right, mul-le-mul_left, div-le_self}
 use Rattle.std.proofs.lemmas.List.FromFn.{length-range_with_len}
 use Rattle.mk_top.proofs.SumCode.{length-chain}
 use Rattle.mk_top.proofs.SumMeaning.{sum-listing, last-small, length-additions, rest-few, first-below, rest-below}
-use Rattle.mk_top.specs.Chain.{additions, whole, chain, sums, last, sum_code, sum_cert}
+use Rattle.mk_top.specs.Chain.{additions, whole, last, sum_code, sum_cert}
 
 -- each block is a sum
 abbrev pub HasSums : Listing → Claimed → Type 0
@@ -104,8 +103,12 @@ short-instrs : (field : FieldId) (maps len : ℕ) (is : List Instr) → AllFit f
     → length (flat_map instr_line is) ≤ 40 * length is
 short-instrs field maps len [] fit few small = omega arith
 short-instrs field maps len (i ∷ is) fit few small =
-    omega (arith, length-append (instr_line i) (flat_map instr_line is), short-instr field maps len i fit.0 few (omega (arith, small)),
-        short-instrs field maps (len + 1) is fit.1 few (omega (arith, small)))
+    omega (
+      arith,
+      length-append (instr_line i) (flat_map instr_line is),
+      short-instr field maps len i fit.0 few (omega (arith, small)),
+      short-instrs field maps (len + 1) is fit.1 few (omega (arith, small)),
+    )
 
 -- the lines of the blocks of a sum
 short-additions : (value : Operand) (k : ℕ) (cs : List ℕ) → OperandFits value → AllBelow 64 cs → k + length cs ≤ 64
@@ -113,9 +116,12 @@ short-additions : (value : Operand) (k : ℕ) (cs : List ℕ) → OperandFits va
 unfolding AllBelow
 short-additions value k [] fits below few = omega arith
 short-additions value k (c ∷ rest) fits below few =
-    omega (arith, length-append (op_line (Add value (Secret c))) (flat_map op_line (additions (Block k) (k + 1) rest)),
-        short-sum value (Secret c) fits (omega (arith, below.0)),
-        short-additions (Block k) (k + 1) rest (omega (arith, few)) below.1 (omega (arith, few)))
+    omega (
+      arith,
+      length-append (op_line (Add value (Secret c))) (flat_map op_line (additions (Block k) (k + 1) rest)),
+      short-sum value (Secret c) fits (omega (arith, below.0)),
+      short-additions (Block k) (k + 1) rest (omega (arith, few)) below.1 (omega (arith, few)),
+    )
 
 -- the places of an output
 short-places : (ps : List ℕ) → AllBelow (2 ^ 32) ps → length (flat_map place_word ps) ≤ 11 * length ps
@@ -130,11 +136,16 @@ unfolding out_lines
 short-outs shares zero ps below = omega arith
 short-outs shares (suc outputs) ps below =
     let whole : length (take shares ps) + length (drop shares ps) ≡ length ps =
-        sym (length-append (take shares ps) (drop shares ps)) ∙ ap length (take-append-drop shares ps) in
+    sym (length-append (take shares ps) (drop shares ps)) ∙ ap length (take-append-drop shares ps) in
     let words : length (out_line (take shares ps)) ≤ 4 + 11 * length (take shares ps) =
-        omega (arith, one-word (flat_map place_word (take shares ps)) (11 * length (take shares ps)) (short-places (take shares ps) (AllBelow-take (2 ^ 32) shares ps below))) in
-    omega (arith, length-append (out_line (take shares ps)) (out_lines shares outputs (drop shares ps)), whole, words,
-        short-outs shares outputs (drop shares ps) (AllBelow-drop (2 ^ 32) shares ps below))
+    omega (arith, one-word (flat_map place_word (take shares ps)) (11 * length (take shares ps)) (short-places (take shares ps) (AllBelow-take (2 ^ 32) shares ps below))) in
+    omega (
+      arith,
+      length-append (out_line (take shares ps)) (out_lines shares outputs (drop shares ps)),
+      whole,
+      words,
+      short-outs shares outputs (drop shares ps) (AllBelow-drop (2 ^ 32) shares ps below),
+    )
 
 -- the line of the field
 short-field : (field : FieldId) → length (field_line field) ≤ 12
@@ -154,8 +165,17 @@ short-head code order secrets publics =
     let c : List ℕ = number_line (codes "order") code.order in
     let d : List ℕ = number_line (codes "secrets") code.secrets in
     let e : List ℕ = number_line (codes "publics") code.publics in
-    omega (arith, length-append (a ++ b ++ c ++ d) e, length-append (a ++ b ++ c) d, length-append (a ++ b) c, length-append a b, short-field code.field,
-        short-number (codes "order") code.order order, short-number (codes "secrets") code.secrets secrets, short-number (codes "publics") code.publics publics)
+    omega (
+      arith,
+      length-append (a ++ b ++ c ++ d) e,
+      length-append (a ++ b ++ c) d,
+      length-append (a ++ b) c,
+      length-append a b,
+      short-field code.field,
+      short-number (codes "order") code.order order,
+      short-number (codes "secrets") code.secrets secrets,
+      short-number (codes "publics") code.publics publics,
+    )
 
 -- a range below its end
 range-below : (q a n : ℕ) → a + n ≤ q → AllBelow q (range_with_len a n)
@@ -172,16 +192,15 @@ below-more p q (c ∷ rest) more below = (omega (arith, below.0), below-more p q
 module _ (order secrets first : ℕ) (rest : List ℕ)
     (low : 1 ≤ order) (high : order ≤ 8) (few_secrets : secrets ≤ 64) (few : length rest ≤ 63)
     (first_below : first < secrets) (rest_below : AllBelow secrets rest) where
-
   sum-pair : IsPair (sum_code order secrets first rest) (sum_cert first rest)
   sum-pair = record {
-      listing = sum-listing order secrets first rest low high few_secrets few first_below rest_below;
-      maps = tt;
-      blocks = fits-additions (Secret first) 0 rest (omega arith) (below-more secrets 64 rest few_secrets rest_below) (omega (arith, few));
-      claims = (fits-whole (Secret first) 0 rest (omega arith) (omega (arith, few)), tt);
-      few_blocks = omega (arith, length-additions (Secret first) 0 rest, few);
-      few_claims = omega arith
-    }
+    listing = sum-listing order secrets first rest low high few_secrets few first_below rest_below;
+    maps = tt;
+    blocks = fits-additions (Secret first) 0 rest (omega arith) (below-more secrets 64 rest few_secrets rest_below) (omega (arith, few));
+    claims = (fits-whole (Secret first) 0 rest (omega arith) (omega (arith, few)), tt);
+    few_blocks = omega (arith, length-additions (Secret first) 0 rest, few);
+    few_claims = omega arith;
+  }
 
   sum-short : IsShort (sum_code order secrets first rest) (sum_cert first rest)
   sum-short =
@@ -203,25 +222,36 @@ module _ (order secrets first : ℕ) (rest : List ℕ)
       let few_outs : length code.outs ≡ n = length-range_with_len (last n (first * n) (secrets * n) rest) n in
       let outputs : length code.outs / n ≤ length code.outs = div-le_self (length code.outs) n in
       let places : AllBelow (2 ^ 32) code.outs =
-          range-below (2 ^ 32) (last n (first * n) (secrets * n) rest) n (omega (arith, last-small order secrets first rest high few_secrets few first_below)) in
+      range-below (2 ^ 32) (last n (first * n) (secrets * n) rest) n (omega (arith, last-small order secrets first rest high few_secrets few first_below)) in
       let h : length head ≤ 200 = short-head code (omega arith) (omega arith) (omega arith) in
       let b : length blocks ≤ 40 * length rest =
-          short-additions (Secret first) 0 rest (omega arith) (below-more secrets 64 rest few_secrets rest_below) (omega (arith, few)) in
+      short-additions (Secret first) 0 rest (omega arith) (below-more secrets 64 rest few_secrets rest_below) (omega (arith, few)) in
       let c : length claims ≤ 40 =
-          omega (arith, length-append (claim_line (whole (Secret first) 0 rest)) [], short-claim (whole (Secret first) 0 rest) (fits-whole (Secret first) 0 rest (omega arith) (omega (arith, few)))) in
+      omega (arith, length-append (claim_line (whole (Secret first) 0 rest)) [], short-claim (whole (Secret first) 0 rest) (fits-whole (Secret first) 0 rest (omega arith) (omega (arith, few)))) in
       let i : length instrs ≤ 40 * length code.instrs = short-instrs code.field 0 (inputs_len order secrets 0) code.instrs listing.fit (omega arith) (omega (arith, count, few_instrs, few_inputs)) in
       let o : length outs ≤ 4 * (length code.outs / n) + 11 * length code.outs = short-outs n (length code.outs / n) code.outs places in
-      omega (arith, length-append (head ++ maps ++ blocks ++ claims ++ middle ++ instrs ++ outs) end,
-          length-append (head ++ maps ++ blocks ++ claims ++ middle ++ instrs) outs,
-          length-append (head ++ maps ++ blocks ++ claims ++ middle) instrs,
-          length-append (head ++ maps ++ blocks ++ claims) middle,
-          length-append (head ++ maps ++ blocks) claims,
-          length-append (head ++ maps) blocks,
-          length-append head maps,
-          h, b, c, i, o, count, few_instrs, few_outs, outputs, few)
+      omega (
+        arith,
+        length-append (head ++ maps ++ blocks ++ claims ++ middle ++ instrs ++ outs) end,
+        length-append (head ++ maps ++ blocks ++ claims ++ middle ++ instrs) outs,
+        length-append (head ++ maps ++ blocks ++ claims ++ middle) instrs,
+        length-append (head ++ maps ++ blocks ++ claims) middle,
+        length-append (head ++ maps ++ blocks) claims,
+        length-append (head ++ maps) blocks,
+        length-append head maps,
+        h,
+        b,
+        c,
+        i,
+        o,
+        count,
+        few_instrs,
+        few_outs,
+        outputs,
+        few,
+      )
 
 module _ (p : Program) (order first : ℕ) (rest : List ℕ) (ok : IsProgram p) (low : 1 ≤ order) (high : order ≤ 8) (named : numbers_of p ≡ first ∷ rest) where
-
   pub program-pair : IsPair (sum_code order (length p.secrets) first rest) (sum_cert first rest)
   program-pair = sum-pair order (length p.secrets) first rest low high ok.few_secrets (rest-few p order first rest ok low high named)
       (first-below p order first rest ok low high named) (rest-below p order first rest ok low high named)

@@ -1,5 +1,5 @@
 -- How a run ends: its status, and the line that it tells.
-use Rattle.std.specs.Prelude.{◌≡◌, ℕ, List, [], ◌∷◌, ◌++◌, codes, decimal}
+use Rattle.std.specs.Prelude.{ℕ, List, [], ◌∷◌, ◌++◌, codes, decimal}
 use Rattle.mk_bundle.specs.declared.read.BundleRefusal.{BundleRefusal}
 use Rattle.mk_bundle.specs.declared.read.BundleRefusal.TheVariants as bundle
 use Rattle.mk_top.specs.declared.status.Status.{Status}

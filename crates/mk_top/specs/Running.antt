@@ -1,12 +1,12 @@
 -- What the steps of a run answer, for the functions that carry them out.
-use Rattle.std.specs.Prelude.{◌≡◌, ℕ, ◌≤◌, ◌<◌, List, [], Option, Some, None, IfSome, length}
+use Rattle.std.specs.Prelude.{◌≡◌, ℕ, ◌<◌, List, Option, Some, IfSome, length}
 use Rattle.mk_base.specs.Outside.{Rose}
 use Rattle.mk_base.specs.Streams.{CameWithin}
 use Rattle.mk_code.specs.Listing.{Listing}
 use Rattle.mk_rules.specs.Claimed.{Claimed}
 use Rattle.mk_top.specs.declared.command.Command.{Command}
 use Rattle.mk_top.specs.declared.fault.Fault.{Fault}
-use Rattle.mk_top.specs.declared.fault.Fault.TheVariants.{Words, NotYet, ReadFault, WriteFault, Memory, TooLong, Bundle, Tile, Operand, Output}
+use Rattle.mk_top.specs.declared.fault.Fault.TheVariants.{Words, ReadFault, WriteFault, Memory, TooLong}
 use Rattle.mk_top.specs.Words.{Asks, IsNoForm}
 use Rattle.mk_top.specs.Answers.{ReadWhole, Makes, PairDecides, TextDecides, Decides, limit_of, TakesWhole, TakesSome, IsAnswerOf}
 use Rattle.mk_top.specs.Faults.{status_of}

@@ -9,15 +9,15 @@ ghost use Rattle.mk_rules.specs.Sums.{AreSums};
 ghost use Rattle.mk_bundle.specs.Text.{text};
 ghost use Rattle.mk_bundle.specs.Pairs.{IsPair};
 ghost use Rattle.mk_top.specs.First.{IsProgram};
-ghost use Rattle.mk_top.specs.Chain.{sums, Laid, sum_code, sum_cert};
+ghost use Rattle.mk_top.specs.Chain.{Laid, sum_code, sum_cert};
 ghost use Rattle.mk_top.specs.Compiled.{IsCompiled, numbers_of};
 ghost use Rattle.mk_top.specs.Correct.{Correct, number_of};
 
 use crate::first::Program;
 use mk_base::{Items, Memory};
-use mk_code::{CodeBuilder, Instr, PositionList};
+use mk_code::{CodeBuilder, PositionList};
 use mk_field::Gf256;
-use mk_rules::{Bundle, Cert};
+use mk_rules::{Bundle, Cert, push_sum};
 use mk_ssa::{Op, Operand};
 use std::alloc::Global;
 
@@ -65,23 +65,6 @@ fn bank(alloc: Global, first: u32, shares: u32) -> Result<PositionList, Memory>
     Ok(places)
 }
 
-/// Appends the sum of two shared values, share by share. Room for it was reserved.
-fn push_sums(builder: &mut CodeBuilder<Gf256>, shares: u32, left: u32, right: u32)
-    requires room { shares ≤ builder.old.spare }
-    requires few { length builder.old.instrs + shares ≤ 8388608 }
-    requires small { draft_len builder.old < 2 ^ 32 }
-    requires left { left + shares ≤ draft_len builder.old }
-    requires right { right + shares ≤ draft_len builder.old }
-    ensures { builder.new ≡ record builder.old { instrs = builder.old.instrs ++ sums shares left right; spare = builder.old.spare - shares } }
-{
-    for share in 0..shares {
-        builder.push(Instr::Add {
-            left: left + share,
-            right: right + share,
-        });
-    }
-}
-
 /// Appends the blocks and the instructions of the sum of the secrets `first` and `rest`, and answers
 /// the whole sum. Room for the instructions was reserved.
 fn lay_sum(
@@ -113,7 +96,7 @@ fn lay_sum(
             right: Operand::Secret(*number),
         })?;
         let place = builder.len();
-        push_sums(builder, shares, sum.first, *number * shares);
+        push_sum(builder, shares, sum.first, *number * shares);
         sum = Shared {
             value: Operand::Block(block as u32),
             first: place,

@@ -1,5 +1,5 @@
 -- The output that the checker names is the fault's.
-use Rattle.std.proofs.Common.{ℕ, ap, Err}
+use Rattle.std.proofs.Common.{ap, Err}
 use Rattle.mk_top.proofs.bundle.accepted.Goals as goal
 
 pub returns-in-Err-Output-clause-fault : goal.returns-in-Err-Output-clause-fault

@@ -70,19 +70,19 @@ pub returns-clause-pair : goal.returns-clause-pair
 returns-clause-pair c =
     let at = (goal.at.returns-clause-pair c).After-unwrap in
     answered at c.sum_bundle.result c.len-secrets.result c.len-secrets.ensures.count c.sum_bundle.ensures.code c.sum_bundle.ensures.cert
-        IsPair
-        (program-pair c.args.program.now c.args.order _ _ c.requires.program c.requires.order.0 c.requires.order.1 (named at))
+    IsPair
+    (program-pair c.args.program.now c.args.order _ _ c.requires.program c.requires.order.0 c.requires.order.1 (named at))
 
 pub returns-clause-sums : goal.returns-clause-sums
 returns-clause-sums c =
     let at = (goal.at.returns-clause-sums c).After-unwrap in
     answered at c.sum_bundle.result c.len-secrets.result c.len-secrets.ensures.count c.sum_bundle.ensures.code c.sum_bundle.ensures.cert
-        HasSums
-        (has-sums _ _)
+    HasSums
+    (has-sums _ _)
 
 pub returns-clause-short : goal.returns-clause-short
 returns-clause-short c =
     let at = (goal.at.returns-clause-short c).After-unwrap in
     answered at c.sum_bundle.result c.len-secrets.result c.len-secrets.ensures.count c.sum_bundle.ensures.code c.sum_bundle.ensures.cert
-        IsShort
-        (program-short c.args.program.now c.args.order _ _ c.requires.program c.requires.order.0 c.requires.order.1 (named at))
+    IsShort
+    (program-short c.args.program.now c.args.order _ _ c.requires.program c.requires.order.0 c.requires.order.1 (named at))

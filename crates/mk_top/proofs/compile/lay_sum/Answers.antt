@@ -7,9 +7,11 @@ use Rattle.mk_code.specs.declared.instr.Instr.{Instr}
 use Rattle.mk_ssa.specs.declared.Op.TheVariants.{Add}
 use Rattle.mk_ssa.specs.declared.Operand.TheVariants.{Block, Secret}
 use Rattle.mk_rules.specs.Claimed.{Claimed}
+use Rattle.mk_rules.specs.Gadget.{Gadget}
+use Rattle.mk_rules.proofs.AddTemplate.{placed-add-ranges, AllBelow-at}
 use Rattle.mk_code.specs.Draft.{Draft, draft_len}
 use Rattle.mk_top.specs.Chain.{sums}
-use Rattle.mk_top.proofs.Laying.{Laying, Laying-more, Laying-all, AllBelow-at, product-le, draft_len-from, room-step}
+use Rattle.mk_top.proofs.Laying.{Laying, Laying-more, Laying-all, product-le, draft_len-from, room-step}
 use Rattle.mk_top.proofs.compile.lay_sum.Goals as goal
 
 pub overflow_mul-number : goal.overflow_mul-number
@@ -19,8 +21,8 @@ overflow_mul-number c =
     product-le _ c.args.shares 64 9 (omega (arith, below, c.requires.secrets)) (omega (arith, c.requires.shares.1)) in
     grind (arith, small)
 
-pub push_sums-requires-clause-right : goal.push_sums-requires-clause-right
-push_sums-requires-clause-right c =
+pub push_sum-requires-clause-right : goal.push_sum-requires-clause-right
+push_sum-requires-clause-right c =
     let number : ℕ = slice_index c.args.rest.now c.loop-block.block in
     let below : number < c.args.builder.now.secrets = AllBelow-at _ c.args.rest.now c.loop-block.block c.requires.rest c.loop-block-test.true in
     let len : draft_len c.loop-block.builder ≡ c.args.builder.now.secrets * c.args.shares + length c.loop-block.builder.instrs =
@@ -33,27 +35,31 @@ loop-block-preserved c =
     let number : ℕ = slice_index c.args.rest.now c.loop-block.block in
     let n : ℕ = c.args.shares in
     let before : Draft = c.loop-block.builder in
+    -- a sum's template is the same whatever gadgets stand for products and refreshes
+    let none : Gadget = record { instrs = []; outs = [] } in
     let len : draft_len before ≡ c.args.builder.now.secrets * n + length before.instrs =
     draft_len-from before c.args.builder.now _ c.loop-block.invariant.same c.requires.none.0 c.requires.inputs in
     let grown : length (before.instrs ++ sums n c.loop-block.sum.first (number * n)) ≡ length before.instrs + n =
     length-append before.instrs (sums n c.loop-block.sum.first (number * n)) ∙ ap (λ (k : ℕ). length before.instrs + k) (length-map-range_with_len _ 0 n) in
-    let pushed : c.push_sums.new.builder ≡ record before { instrs = before.instrs ++ sums n c.loop-block.sum.first (number * n); spare = before.spare - n } =
-    c.push_sums.ensures in
-    let instrs : c.push_sums.new.builder.instrs ≡ before.instrs ++ sums n c.loop-block.sum.first (number * n) = ap (λ (d : Draft). d.instrs) pushed in
-    let spare : c.push_sums.new.builder.spare ≡ before.spare - n = ap (λ (d : Draft). d.spare) pushed in
+    let pushed : c.push_sum.new.builder ≡ record before { instrs = before.instrs ++ sums n c.loop-block.sum.first (number * n); spare = before.spare - n } =
+    c.push_sum.ensures none none c.loop-block.sum.value (Secret number)
+    ∙ ap (λ (is : List Instr). record before { instrs = before.instrs ++ is; spare = before.spare - n })
+    (placed-add-ranges n (draft_len before) none none c.loop-block.sum.value (Secret number) c.loop-block.sum.first (number * n)) in
+    let instrs : c.push_sum.new.builder.instrs ≡ before.instrs ++ sums n c.loop-block.sum.first (number * n) = ap (λ (d : Draft). d.instrs) pushed in
+    let spare : c.push_sum.new.builder.spare ≡ before.spare - n = ap (λ (d : Draft). d.spare) pushed in
     let place : c.len-place.result ≡ draft_len before = c.len-place.ensures in
-    let longer : draft_len c.push_sums.new.builder ≡ draft_len before + n = omega (arith, ap draft_len pushed, grown) in
+    let longer : draft_len c.push_sum.new.builder ≡ draft_len before + n = omega (arith, ap draft_len pushed, grown) in
     let made : c.push_block.new.self.blocks ≡ c.loop-block.cert.blocks ++ Add c.loop-block.sum.value (Secret number) ∷ [] =
     ap (λ (cert : Claimed). cert.blocks) c.in_ok-push_block.ensures.ok in
     let room : (length c.args.rest.now - c.loop-block.block) * n ≡ (length c.args.rest.now - (c.loop-block.block + 1)) * n + n =
     room-step (length c.args.rest.now) c.loop-block.block n c.loop-block-test.true in
-    let same : c.push_sums.new.builder ≡ record c.args.builder.now { instrs = c.push_sums.new.builder.instrs; spare = c.push_sums.new.builder.spare } =
+    let same : c.push_sum.new.builder ≡ record c.args.builder.now { instrs = c.push_sum.new.builder.instrs; spare = c.push_sum.new.builder.spare } =
     pushed
     ∙ ap (λ (d : Draft). record d { instrs = before.instrs ++ sums n c.loop-block.sum.first (number * n); spare = before.spare - n }) c.loop-block.invariant.same
     ∙ ap (λ (is : List Instr). record c.args.builder.now { instrs = is; spare = before.spare - n }) (sym instrs)
-    ∙ ap (λ (k : ℕ). record c.args.builder.now { instrs = c.push_sums.new.builder.instrs; spare = k }) (sym spare) in
+    ∙ ap (λ (k : ℕ). record c.args.builder.now { instrs = c.push_sum.new.builder.instrs; spare = k }) (sym spare) in
     let laying : Laying n c.args.first (c.args.builder.now.secrets * n) c.args.rest.now (c.loop-block.block + 1) (Block c.loop-block.block)
-    c.len-place.result (draft_len c.push_sums.new.builder) c.push_sums.new.builder.instrs c.push_block.new.self.blocks =
+    c.len-place.result (draft_len c.push_sum.new.builder) c.push_sum.new.builder.instrs c.push_block.new.self.blocks =
     rw (place, longer, instrs, made)
     (Laying-more n c.args.first (c.args.builder.now.secrets * n) c.args.rest.now c.loop-block.block c.loop-block.sum.value c.loop-block.sum.first
     (draft_len before) before.instrs c.loop-block.cert.blocks number c.loop-block-test.true refl c.loop-block.invariant.laying) in

@@ -1,10 +1,8 @@
 -- Each way that a run ends has one answer.
-use Rattle.std.proofs.Common.{◌≡◌, List, ℕ, Option, IfSome, length, sym, subst, ◌∙◌}
+use Rattle.std.proofs.Common.{IfSome, sym, subst}
 use Rattle.mk_bundle.proofs.Naming.{differ}
-use Rattle.mk_top.specs.declared.command.Command.{Command}
 use Rattle.mk_top.specs.declared.command.Command.TheVariants.{Compile}
 use Rattle.mk_top.specs.declared.status.Status.{Status}
-use Rattle.mk_top.specs.declared.fault.Fault.{Fault}
 use Rattle.mk_top.specs.Answers.{Decides, IsOrMemory, answer_status}
 use Rattle.mk_top.proofs.Ends.{finished-at, stopped-at, stopped-because, stopped-decided, finished-decided}
 use Rattle.mk_top.proofs.top.mask_main.Goals as goal
