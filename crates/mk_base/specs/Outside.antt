@@ -1,13 +1,13 @@
 -- What a program sees of the outside world: bytes that come and go, and a count of faults.
-use Rattle.std.specs.Prelude.{◌≡◌, ℕ, ◌+◌, ◌-◌, ◌^◌, ◌≤◌, ◌<◌, ◌⊎◌, min, List, ◌++◌, length, take, drop, Option, Some}
+use Rattle.std.specs.Prelude.{◌≡◌, ℕ, ◌+◌, ◌-◌, ◌^◌, ◌≤◌, min, List, ◌++◌, length, take, drop, Option, Some}
 
 -- the count of faults after one more, which stays at its last value, that of 64 bits
 abbrev pub one_more : ℕ → ℕ
 one_more count = min (count + 1) (2 ^ 64 - 1)
 
--- the count of faults rose between two moments, or stands at its last value
+-- a fault was counted between two moments
 abbrev pub Rose : ℕ → ℕ → Type 0
-Rose before after = (before < after) ⊎ (after ≡ 2 ^ 64 - 1)
+Rose before after = one_more before ≤ after
 
 -- the first n bytes of the buffer are the next n of those that were left, and these are taken
 pub record GivesNext (rest : List ℕ) (n : ℕ) (buffer : List ℕ) (after : Option (List ℕ)) : Type 0 where

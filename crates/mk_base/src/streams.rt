@@ -101,20 +101,24 @@ mod tests {
     #[test]
     fn reads_and_writes_up_to_a_fault(rt: HostRuntime) -> Result<(), Memory> {
         let alloc = rt.alloc();
-        let bytes = [7u8; 40];
+        let bytes = b"0123456789abcdefghijklmnopqrstuvwxyzABCD";
         for (limit, fail, wanted) in [
-            (40, 0, Ok(40)),
+            (40, 0, Ok(&bytes[..])),
             (39, 0, Err(ReadRefusal::TooLong)),
             (40, 2, Err(ReadRefusal::Fault)),
         ] {
-            let mut source = MemSource::new(alloc, &bytes, 16, &[fail])?;
-            let read = read_all(alloc, &mut source, limit).map(|bytes| bytes.len());
+            let mut source = MemSource::new(alloc, bytes, 16, &[fail])?;
+            let read = read_all(alloc, &mut source, limit);
+            let read = match &read {
+                Ok(items) => Ok(items.as_slice()),
+                Err(refusal) => Err(*refusal),
+            };
             assert_eq!(rt; read, wanted, "limit {limit}, call {fail} fails");
         }
         for (fail, wanted, taken) in [(0, Ok(()), 40), (3, Err(Failed), 32)] {
             let mut sink = MemSink::new(alloc, 64, 16, &[fail])?;
-            assert_eq!(rt; write_all(&mut sink, &bytes), wanted, "call {fail} fails");
-            assert_eq!(rt; sink.taken().len(), taken, "call {fail} fails");
+            assert_eq!(rt; write_all(&mut sink, bytes), wanted, "call {fail} fails");
+            assert_eq!(rt; sink.taken(), &bytes[..taken], "call {fail} fails");
         }
         Ok(())
     }

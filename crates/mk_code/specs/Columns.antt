@@ -1,9 +1,10 @@
 -- Linear code that works share by share: each entry of the trace has a column, which is the index of
 -- the shares that it is made of, or none where it is made of publics and constants alone.
-use Rattle.std.specs.Prelude.{◌≡◌, ℕ, ◌+◌, ◌*◌, ◌≤◌, ◌<◌, List, [], ◌∷◌, Option, Some, None}
+use Rattle.std.specs.Prelude.{◌≡◌, ℕ, ◌+◌, ◌*◌, ◌≤◌, ◌<◌, List, [], ◌∷◌, Option, Some, None, IfSome, length, slice_index}
 use Rattle.mk_code.specs.declared.instr.Instr.{Instr}
 use Rattle.mk_code.specs.declared.instr.Instr.TheVariants.{Rnd, Const, Copy, Add, Mul, Sq, Map}
 use Rattle.mk_code.specs.Listing.{Listing, inputs_len}
+use Rattle.mk_code.specs.Trace.{trace}
 
 -- an entry of the first column may be read for a value of the second: where it has a column it is
 -- the value's
@@ -37,3 +38,21 @@ pub record AreColumns (code : Listing) (column : ℕ → Option ℕ) : Type 0 wh
 -- the code works share by share
 abbrev pub HasColumns : Listing → Type 0
 HasColumns code = (column : ℕ → Option ℕ) × AreColumns code column
+
+-- two lists of the shares of `count` values, order + 1 shares for each, have the same share j of each
+-- value
+abbrev pub AgreeAt : ℕ → ℕ → ℕ → List ℕ → List ℕ → Type 0
+AgreeAt order count j u v =
+    (i : ℕ) → i < count → slice_index u (i * (order + 1) + j) ≡ slice_index v (i * (order + 1) + j)
+
+-- each entry depends on the publics and on the shares of its column alone: two runs over the same
+-- publics, whatever their tapes, have the same entry at a place of column j if share j of each secret
+-- is the same, and at a place of no column whatever the shares are
+abbrev pub DependOnColumns : Listing → (ℕ → Option ℕ) → Type 0
+DependOnColumns code column =
+    (publics first second tape other : List ℕ) (p : ℕ)
+    → length publics ≡ code.publics
+    → length first ≡ code.secrets * (code.order + 1)
+    → length second ≡ code.secrets * (code.order + 1)
+    → IfSome (column p) (λ j. AgreeAt code.order code.secrets j first second)
+    → slice_index (trace code publics first tape) p ≡ slice_index (trace code publics second other) p

@@ -1,12 +1,12 @@
 ghost use Rattle.mk_field.specs.declared.field.FieldId.{FieldId};
-ghost use Rattle.std.specs.Prelude.{List};
+ghost use Rattle.std.specs.Prelude.{ℕ, List, Option};
 ghost use Rattle.mk_field.specs.declared.map.AddMap.{AddMap};
 ghost use Rattle.mk_code.specs.Listing.{Listing};
 ghost use Rattle.mk_code.specs.Private.{Private};
 ghost use Rattle.mk_code.specs.CountingLaws.{CountingLaws};
 ghost use Rattle.mk_code.specs.Shares.{EncodingLaw, EncodingsLaw};
 ghost use Rattle.mk_code.specs.RunLaws.{RunLaws};
-ghost use Rattle.mk_code.specs.Columns.{HasColumns};
+ghost use Rattle.mk_code.specs.Columns.{AreColumns, HasColumns, DependOnColumns};
 
 /// The laws of totals over all lists of elements. It does nothing.
 pub fn counting_laws()
@@ -21,9 +21,11 @@ pub fn encodings_law()
     ensures several { (field : FieldId) → EncodingsLaw field }
 {}
 
-/// The law of columns: code that works share by share is private. It does nothing.
+/// The law of columns: code that works share by share is private, and each entry of its trace depends
+/// on the publics and on the shares of the entry's column alone. It does nothing.
 pub fn columns_law()
-    ensures { (code : Listing) → HasColumns code → Private code }
+    ensures private { (code : Listing) → HasColumns code → Private code }
+    ensures depends { (code : Listing) (column : ℕ → Option ℕ) → AreColumns code column → DependOnColumns code column }
 {}
 
 /// The laws of runs: how a run is made of runs of parts. It does nothing.
