@@ -212,7 +212,15 @@ fn bundles_are_checked(rt: HostRuntime) -> Result<(), Memory> {
     };
     assert!(rt; answers(alloc, &["check"], SUM_BUNDLE.as_bytes(), &CALM, &accepted)?);
     assert!(rt; answers(alloc, &["check"], TWICE_BUNDLE.as_bytes(), &CALM, &accepted)?);
-    assert!(rt; answers(alloc, &["check"], PRODUCT_BUNDLE.as_bytes(), &CALM, &NOT_YET)?);
+    assert!(rt;
+        answers(
+            alloc,
+            &["check"],
+            PRODUCT_BUNDLE.as_bytes(),
+            &CALM,
+            &NOT_YET
+        )?
+    );
     // The sum of two secrets, with one line changed, left out or added.
     let rows = [
         (
@@ -280,7 +288,15 @@ fn bundles_are_checked(rt: HostRuntime) -> Result<(), Memory> {
         out: "acce",
         err: "7 write fault\n",
     };
-    assert!(rt; answers(alloc, &["check"], SUM_BUNDLE.as_bytes(), &write, &write_fault)?);
+    assert!(rt;
+        answers(
+            alloc,
+            &["check"],
+            SUM_BUNDLE.as_bytes(),
+            &write,
+            &write_fault
+        )?
+    );
     Ok(())
 }
 
@@ -376,12 +392,23 @@ fn what_is_compiled_is_read_back_and_accepted(rt: HostRuntime) -> Result<(), Fai
     };
     for source in [SUM, TWICE, long.as_str()] {
         for order in [1, 3, 8] {
-            let program = read_first(alloc, source.as_bytes()).ok().ok_or("it is a program")?;
-            let bundle = compile(alloc, &program, order).ok().ok_or("there is memory")?;
-            let text = to_text(alloc, &bundle.code, &bundle.cert).ok().ok_or("there is memory")?;
-            let again = read_bundle(alloc, text.as_slice()).ok().ok_or("it is a bundle")?;
+            let program = read_first(alloc, source.as_bytes())
+                .ok()
+                .ok_or("it is a program")?;
+            let bundle = compile(alloc, &program, order)
+                .ok()
+                .ok_or("there is memory")?;
+            let text = to_text(alloc, &bundle.code, &bundle.cert)
+                .ok()
+                .ok_or("there is memory")?;
+            let again = read_bundle(alloc, text.as_slice())
+                .ok()
+                .ok_or("it is a bundle")?;
             assert!(rt; is_same_pair(&bundle, &again));
-            let wide = Outside { piece: 4096, ..CALM };
+            let wide = Outside {
+                piece: 4096,
+                ..CALM
+            };
             let answer = answers(alloc, &["check"], text.as_slice(), &wide, &accepted);
             assert!(rt; answer.ok() == Some(true));
         }
