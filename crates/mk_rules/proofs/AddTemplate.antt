@@ -1,14 +1,18 @@
 -- The template of a sum, placed in a code: its instructions, its out bank, and that it adds sharings.
-use Rattle.std.proofs.Common.{◌≡◌, ℕ, zero, suc, ◌+◌, ◌-◌, ◌*◌, ◌<◌, ◌≤◌, List, [], ◌∷◌, ◌++◌, length, map, slice_index, bit_xor, refl, sym, ◌∙◌, ap, arith, append_assoc}
+use Rattle.std.proofs.Common.{◌≡◌, ℕ, zero, suc, ◌+◌, ◌-◌, ◌*◌, ◌<◌, ◌≤◌, List, [], ◌∷◌, ◌++◌, length, map, slice_index, bit_xor, refl, sym, ◌∙◌, ap, subst, arith, append_assoc}
 use Rattle.std.specs.List.{range_with_len}
 use Rattle.std.proofs.lemmas.List.{length-append, append-nil, get_or_append_left, get_or-append-add}
-use Rattle.std.proofs.lemmas.List.FromFn.{length-range_with_len, get_or-range_with_len}
+use Rattle.std.proofs.lemmas.List.FromFn.{length-range_with_len, length-map-range_with_len, get_or-range_with_len}
 use Rattle.std.proofs.lemmas.Bool.{lt-ltb, le-ltb}
 use Rattle.mk_field.specs.declared.field.FieldId.{FieldId}
 use Rattle.mk_field.specs.declared.map.AddMap.{AddMap}
+use Rattle.mk_field.specs.Sharing.{IsSharing, field_sum}
+use Rattle.mk_field.proofs.Sum.{sum-interchange}
 use Rattle.mk_code.specs.declared.instr.Instr.{Instr}
 use Rattle.mk_code.specs.declared.instr.Instr.TheVariants as instr
-use Rattle.mk_code.specs.Trace.{run}
+use Rattle.mk_code.specs.Trace.{run, randoms}
+use Rattle.mk_code.specs.Counting.{AllBelow}
+use Rattle.mk_code.specs.Private.{observation}
 use Rattle.mk_ssa.specs.declared.Operand.{Operand}
 use Rattle.mk_ssa.specs.declared.Op.TheVariants as op
 use Rattle.mk_rules.specs.Gadget.{Gadget, placement, moved, placed, placed_outs}
@@ -124,3 +128,110 @@ run-adds field maps tape entries left right a (suc n) within =
     cc) in
     rest ∙ ap (λ (xs : List ℕ). more ++ xs) same
     ∙ append_assoc entries (v ∷ []) (map (λ i. bit_xor (slice_index entries (left i)) (slice_index entries (right i))) (range_with_len (a + 1) n))
+
+-- sums take no random element
+pub randoms-adds : (left right : ℕ → ℕ) (a n : ℕ) → randoms (map (λ i. instr.Add (left i) (right i)) (range_with_len a n)) ≡ 0
+unfolding randoms
+randoms-adds left right a zero = refl
+randoms-adds left right a (suc n) = omega (arith, randoms-adds left right (a + 1) n)
+
+-- an element of a list of numbers below q
+pub AllBelow-at : (q : ℕ) (xs : List ℕ) (i : ℕ) → AllBelow q xs → i < length xs → slice_index xs i < q
+unfolding AllBelow
+AllBelow-at q [] i below within = absurd (omega (arith, within))
+AllBelow-at q (x ∷ xs) zero below within = below.0
+AllBelow-at q (x ∷ xs) (suc i) below within = AllBelow-at q xs i below.1 (omega (arith, within))
+
+-- a range is below its end
+pub AllBelow-range : (q a n : ℕ) → a + n ≤ q → AllBelow q (range_with_len a n)
+unfolding AllBelow
+AllBelow-range q a zero within = tt
+AllBelow-range q a (suc n) within = (omega (arith, within), AllBelow-range q (a + 1) n (omega (arith, within)))
+
+-- what is observed at a list of places, place by place
+observed-each : (entries xs : List ℕ) (at : ℕ → ℕ) (k : ℕ) → ((i : ℕ) → i < length xs → at (k + i) ≡ slice_index xs i)
+    → observation xs entries ≡ map (λ i. slice_index entries (at i)) (range_with_len k (length xs))
+observed-each entries [] at k same = refl
+observed-each entries (x ∷ xs) at k same =
+    let e : k ≡ k + 0 = omega arith in
+    let place : at k ≡ x = ap at e ∙ same 0 (omega arith) in
+    let here : slice_index entries x ≡ slice_index entries (at k) = ap (slice_index entries) (sym place) in
+    let rest : observation xs entries ≡ map (λ i. slice_index entries (at i)) (range_with_len (k + 1) (length xs)) =
+    observed-each entries xs at (k + 1) (λ i below. let f : k + 1 + i ≡ k + suc i = omega arith in ap at f ∙ same (suc i) (omega (arith, below))) in
+    cc
+
+pub observed-by_index : (entries xs : List ℕ) (n : ℕ) → length xs ≡ n
+    → observation xs entries ≡ map (λ i. slice_index entries (slice_index xs i)) (range_with_len 0 n)
+observed-by_index entries xs n count =
+    observed-each entries xs (slice_index xs) 0 (λ i below. let e : 0 + i ≡ i = omega arith in ap (slice_index xs) e)
+    ∙ ap (λ (m : ℕ). map (λ i. slice_index entries (slice_index xs i)) (range_with_len 0 m)) count
+
+-- what stands behind the entries is observed there
+observed-from : (all more : List ℕ) (a : ℕ) → ((i : ℕ) → i < length more → slice_index all (a + i) ≡ slice_index more i)
+    → observation (range_with_len a (length more)) all ≡ more
+observed-from all [] a same = refl
+observed-from all (m ∷ more) a same =
+    let e : a ≡ a + 0 = omega arith in
+    let here : slice_index all a ≡ m = ap (slice_index all) e ∙ same 0 (omega arith) in
+    let rest : observation (range_with_len (a + 1) (length more)) all ≡ more =
+    observed-from all more (a + 1) (λ i below. let f : a + 1 + i ≡ a + suc i = omega arith in ap (slice_index all) f ∙ same (suc i) (omega (arith, below))) in
+    cc
+
+pub observed-behind : (entries more : List ℕ) (n : ℕ) → length more ≡ n → observation (range_with_len (length entries) n) (entries ++ more) ≡ more
+observed-behind entries more n count =
+    ap (λ (m : ℕ). observation (range_with_len (length entries) m) (entries ++ more)) (sym count)
+    ∙ observed-from (entries ++ more) more (length entries) (λ i below. get_or-append-add entries more i 0)
+
+-- the sum of sums is the sum of the two sums
+pub field_sum-sums : (f g : ℕ → ℕ) (a n : ℕ)
+    → field_sum (map (λ i. bit_xor (f i) (g i)) (range_with_len a n)) ≡ bit_xor (field_sum (map f (range_with_len a n))) (field_sum (map g (range_with_len a n)))
+unfolding field_sum
+field_sum-sums f g a zero = refl
+field_sum-sums f g a (suc n) =
+    ap (λ (s : ℕ). bit_xor (bit_xor (f a) (g a)) s) (field_sum-sums f g (a + 1) n)
+    ∙ sum-interchange (f a) (g a) (field_sum (map f (range_with_len (a + 1) n))) (field_sum (map g (range_with_len (a + 1) n)))
+
+-- behind the entries stand n more, which share the sum of what the two banks share
+pub record AddsSharings (n : ℕ) (xs ys entries after : List ℕ) : Type 0 where
+  pub more : List ℕ
+  pub behind : after ≡ entries ++ more
+  pub seen : observation (range_with_len (length entries) n) after ≡ more
+  pub sharing : IsSharing n (bit_xor (field_sum (observation xs entries)) (field_sum (observation ys entries))) more
+
+-- the placed template of a sum, run behind entries that have both banks, adds what they share
+pub run-add : (field : FieldId) (maps : List AddMap) (tape entries : List ℕ) (n base : ℕ) (product refresh : Gadget) (left right : Operand) (xs ys : List ℕ)
+    → length xs ≡ n → length ys ≡ n → AllBelow (length entries) xs → AllBelow (length entries) ys
+    → AddsSharings n xs ys entries (run field maps (placed (xs ++ ys) base (template n product refresh (op.Add left right))) tape entries)
+run-add field maps tape entries n base product refresh left right xs ys first second here there =
+    let f : ℕ → ℕ = λ i. slice_index entries (slice_index xs i) in
+    let g : ℕ → ℕ = λ i. slice_index entries (slice_index ys i) in
+    let more : List ℕ = map (λ i. bit_xor (f i) (g i)) (range_with_len 0 n) in
+    let count : length more ≡ n = length-map-range_with_len (λ i. bit_xor (f i) (g i)) 0 n in
+    let ran : run field maps (placed (xs ++ ys) base (template n product refresh (op.Add left right))) tape entries ≡ entries ++ more =
+    ap (λ (is : List Instr). run field maps is tape entries) (placed-add n base product refresh left right xs ys first second)
+    ∙ run-adds field maps tape entries (slice_index xs) (slice_index ys) 0 n
+    (λ i low high. (AllBelow-at (length entries) xs i here (omega (arith, high, first)), AllBelow-at (length entries) ys i there (omega (arith, high, second)))) in
+    record {
+      more = more;
+      behind = ran;
+      seen = ap (observation (range_with_len (length entries) n)) ran ∙ observed-behind entries more n count;
+      sharing = record {
+        count = count;
+        sum = field_sum-sums f g 0 n
+            ∙ ap (λ (s : List ℕ). bit_xor (field_sum s) (field_sum (map g (range_with_len 0 n)))) (sym (observed-by_index entries xs n first))
+            ∙ ap (λ (s : List ℕ). bit_xor (field_sum (observation xs entries)) (field_sum s)) (sym (observed-by_index entries ys n second));
+      };
+    }
+
+-- so its out bank is a sharing of the sum
+pub add-shares : (field : FieldId) (maps : List AddMap) (tape entries : List ℕ) (n : ℕ) (product refresh : Gadget) (left right : Operand) (xs ys : List ℕ)
+    → length xs ≡ n → length ys ≡ n → AllBelow (length entries) xs → AllBelow (length entries) ys
+    → IsSharing n (bit_xor (field_sum (observation xs entries)) (field_sum (observation ys entries)))
+    (observation (placed_outs (xs ++ ys) (length entries) (template n product refresh (op.Add left right)))
+    (run field maps (placed (xs ++ ys) (length entries) (template n product refresh (op.Add left right))) tape entries))
+add-shares field maps tape entries n product refresh left right xs ys first second here there =
+    let after : List ℕ = run field maps (placed (xs ++ ys) (length entries) (template n product refresh (op.Add left right))) tape entries in
+    let adds : AddsSharings n xs ys entries after = run-add field maps tape entries n (length entries) product refresh left right xs ys first second here there in
+    let seen : observation (placed_outs (xs ++ ys) (length entries) (template n product refresh (op.Add left right))) after ≡ adds.more =
+    ap (λ (places : List ℕ). observation places after) (placed_outs-add n (length entries) product refresh left right xs ys first second) ∙ adds.seen in
+    subst (IsSharing n (bit_xor (field_sum (observation xs entries)) (field_sum (observation ys entries)))) (sym seen) adds.sharing

@@ -1,9 +1,8 @@
 -- The blocks of a sum and their instructions, laid one after the other.
-use Rattle.std.proofs.Common.{◌≡◌, ℕ, zero, suc, ◌+◌, ◌-◌, ◌*◌, ◌<◌, ◌≤◌, List, [], ◌∷◌, ◌++◌, length, drop, slice_index, refl, sym, ◌∙◌, ap, arith, append_assoc, add-one, drop-cons}
+use Rattle.std.proofs.Common.{◌≡◌, ℕ, suc, ◌+◌, ◌-◌, ◌*◌, ◌<◌, ◌≤◌, List, [], ◌∷◌, ◌++◌, length, drop, slice_index, refl, sym, ◌∙◌, ap, arith, append_assoc, add-one, drop-cons}
 use Rattle.std.proofs.lemmas.List.{append-nil, length-drop}
 use Rattle.std.proofs.Math.Nat.{mul-le-mul_right, mul-le-mul_left}
 use Rattle.mk_code.specs.declared.instr.Instr.{Instr}
-use Rattle.mk_code.specs.Counting.{AllBelow}
 use Rattle.mk_code.specs.Listing.{inputs_len}
 use Rattle.mk_code.specs.Draft.{Draft, draft_len}
 use Rattle.mk_ssa.specs.declared.Operand.{Operand}
@@ -60,13 +59,6 @@ Laying-all n first base rest i value place len laid made past so_far =
         empty : (ys : List ℕ) → length ys ≤ 0 → ys ≡ []
         empty [] none = refl
         empty (y ∷ ys) none = absurd (omega (arith, none))
-
--- an element of a list of numbers below q
-pub AllBelow-at : (q : ℕ) (xs : List ℕ) (i : ℕ) → AllBelow q xs → i < length xs → slice_index xs i < q
-unfolding AllBelow
-AllBelow-at q [] i below within = absurd (omega (arith, within))
-AllBelow-at q (x ∷ xs) zero below within = below.0
-AllBelow-at q (x ∷ xs) (suc i) below within = AllBelow-at q xs i below.1 (omega (arith, within))
 
 -- products of small numbers
 pub product-le : (a b p q : ℕ) → a ≤ p → b ≤ q → a * b ≤ p * q

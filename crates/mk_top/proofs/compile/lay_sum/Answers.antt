@@ -8,10 +8,10 @@ use Rattle.mk_ssa.specs.declared.Op.TheVariants.{Add}
 use Rattle.mk_ssa.specs.declared.Operand.TheVariants.{Block, Secret}
 use Rattle.mk_rules.specs.Claimed.{Claimed}
 use Rattle.mk_rules.specs.Gadget.{Gadget}
-use Rattle.mk_rules.proofs.AddTemplate.{placed-add-ranges}
+use Rattle.mk_rules.proofs.AddTemplate.{placed-add-ranges, AllBelow-at}
 use Rattle.mk_code.specs.Draft.{Draft, draft_len}
 use Rattle.mk_top.specs.Chain.{sums}
-use Rattle.mk_top.proofs.Laying.{Laying, Laying-more, Laying-all, AllBelow-at, product-le, draft_len-from, room-step}
+use Rattle.mk_top.proofs.Laying.{Laying, Laying-more, Laying-all, product-le, draft_len-from, room-step}
 use Rattle.mk_top.proofs.compile.lay_sum.Goals as goal
 
 pub overflow_mul-number : goal.overflow_mul-number
