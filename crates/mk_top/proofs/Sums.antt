@@ -1,16 +1,15 @@
 -- What the instructions of a sum compute.
-use Rattle.std.proofs.Common.{◌≡◌, ℕ, zero, suc, ◌+◌, ◌*◌, ◌<◌, ◌≤◌, List, [], ◌∷◌, ◌++◌, length, map, drop, slice_index, bit_xor, refl, sym, ◌∙◌, ap, subst, arith}
+use Rattle.std.proofs.Common.{◌≡◌, ℕ, suc, ◌+◌, ◌*◌, ◌<◌, ◌≤◌, List, [], ◌∷◌, ◌++◌, length, map, drop, slice_index, bit_xor, refl, sym, ◌∙◌, ap, subst, arith}
 use Rattle.std.proofs.Math.Nat.{mul-le-mul_right}
 use Rattle.std.specs.List.{range_with_len}
-use Rattle.std.proofs.lemmas.List.{length-append, get_or_append_left, get_or-append-add}
+use Rattle.std.proofs.lemmas.List.{length-append, get_or_append_left}
 use Rattle.std.proofs.lemmas.List.FromFn.{length-range_with_len}
 use Rattle.mk_field.specs.declared.field.FieldId.{FieldId}
 use Rattle.mk_field.specs.declared.map.AddMap.{AddMap}
 use Rattle.mk_field.specs.Sharing.{field_sum}
-use Rattle.mk_field.proofs.Sum.{sum-interchange, sum-assoc, sum-zero_right}
+use Rattle.mk_field.proofs.Sum.{sum-assoc, sum-zero_right}
 use Rattle.mk_code.specs.declared.instr.Instr.{Instr}
-use Rattle.mk_code.specs.declared.instr.Instr.TheVariants as instr
-use Rattle.mk_code.specs.Trace.{run, entry, takes, randoms}
+use Rattle.mk_code.specs.Trace.{run, randoms}
 use Rattle.mk_code.specs.Private.{observation}
 use Rattle.mk_code.specs.Counting.{AllBelow}
 use Rattle.mk_code.proofs.Runs.{run-append as run-split}
