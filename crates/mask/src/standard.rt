@@ -1,4 +1,5 @@
-ghost use Rattle.std.specs.Prelude.{◌≡◌, ◌≤◌, ◌<◌, None, length, IfSome};
+ghost use Rattle.std.specs.Prelude.{◌≡◌, ◌≤◌, ◌<◌, None, Ok, length, IfSome, OnErr, IsErr};
+ghost use Rattle.mk_base.specs.Outside.{one_more};
 
 use mk_base::{Failed, Sink, Source};
 use std::io::{ErrorKind, Read, Stderr, Stdin, Stdout, Write};
@@ -7,15 +8,15 @@ use std::marker::Model;
 /// How often a call that was interrupted is made in all, before it counts as a failure.
 const MOST_TRIES: u32 = 1000;
 
-/// Standard input as a source. It tells nothing of its bytes, and counts its failures.
+/// Standard input as a source. It tells nothing of its bytes. Each failure that it answers is counted.
 #[derive(Drop)]
 pub struct StdSource {
     stdin: Stdin,
     faults: u64,
 }
 
-/// Standard output as a sink. It tells nothing of what it took, and counts its failures. Nothing is
-/// kept in a buffer, so what a write took is written.
+/// Standard output as a sink. It tells nothing of what it took. Each failure that it answers is
+/// counted. Nothing is kept in a buffer, so what a write took is written.
 #[derive(Drop)]
 pub struct StdOut {
     stdout: Stdout,
@@ -93,13 +94,8 @@ impl Source for StdSource {
     ghost faults = { λ s. s };
 
     fn read(&mut self, buf: &mut [u8]) -> Result<usize, Failed> {
-        match read_some(&mut self.stdin, buf) {
-            Some(count) => Ok(count),
-            None => {
-                self.faults = self.faults.saturating_add(1);
-                Err(Failed)
-            }
-        }
+        let done = read_some(&mut self.stdin, buf);
+        counted(done, &mut self.faults)
     }
 }
 
@@ -109,13 +105,8 @@ impl Sink for StdOut {
     ghost faults = { λ s. s };
 
     fn write(&mut self, piece: &[u8]) -> Result<usize, Failed> {
-        match write_some(&mut self.stdout, piece) {
-            Some(count) => Ok(count),
-            None => {
-                self.faults = self.faults.saturating_add(1);
-                Err(Failed)
-            }
-        }
+        let done = write_some(&mut self.stdout, piece);
+        counted(done, &mut self.faults)
     }
 }
 
@@ -125,12 +116,22 @@ impl Sink for StdErr {
     ghost faults = { λ s. s };
 
     fn write(&mut self, piece: &[u8]) -> Result<usize, Failed> {
-        match write_some(&mut self.stderr, piece) {
-            Some(count) => Ok(count),
-            None => {
-                self.faults = self.faults.saturating_add(1);
-                Err(Failed)
-            }
+        let done = write_some(&mut self.stderr, piece);
+        counted(done, &mut self.faults)
+    }
+}
+
+/// The answer of a call that is done, or a failure, which is counted.
+fn counted(done: Option<usize>, faults: &mut u64) -> Result<usize, Failed>
+    ensures done { IfSome done (λ n. (result ≡ Ok n) × (faults.new ≡ faults.old)) }
+    ensures failed { done ≡ None → IsErr result × (faults.new ≡ one_more faults.old) }
+    ensures never_falls { faults.old ≤ faults.new }
+{
+    match done {
+        Some(count) => Ok(count),
+        None => {
+            *faults = faults.saturating_add(1);
+            Err(Failed)
         }
     }
 }
