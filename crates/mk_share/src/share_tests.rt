@@ -33,6 +33,25 @@ fn shares_at(order: u8) -> usize
     with_order!(order, shares::<Gf256>())
 }
 
+/// The number of shares and one more number.
+fn shares_and<F: Field, const N: usize>(more: usize) -> usize
+    requires more { more ≤ 8 }
+    requires most { N ≤ 256 }
+    ensures { result ≡ N + more }
+{
+    N + more
+}
+
+/// How many shares a bit has at an order, and one more number.
+fn bit_shares_and(order: u8, more: usize) -> usize
+    requires least { 1 ≤ order }
+    requires most { order ≤ 8 }
+    requires more { more ≤ 8 }
+    ensures { result ≡ order + 1 + more }
+{
+    with_order!(order, shares_and::<Gf2>(more))
+}
+
 #[test]
 fn two_shares_of_a_byte(rt: HostRuntime) {
     let sharing = encode::<Gf256, 2>(0x57, &[0x55]);
@@ -43,7 +62,27 @@ fn two_shares_of_a_byte(rt: HostRuntime) {
         }
     );
     assert_eq!(rt; decode::<Gf256, 2>(&sharing), 0x57);
-    assert_eq!(rt; round_trip::<Gf256, 3>(0x57, &[0x83, 0x13]), 0x57);
+}
+
+#[test]
+fn two_shares_of_a_bit(rt: HostRuntime) {
+    let sharing = encode::<Gf2, 2>(1, &[1]);
+    assert_eq!(rt; sharing, Sharing { parts: [0, 1] });
+    assert_eq!(rt; decode::<Gf2, 2>(&sharing), 1);
+    assert_eq!(rt; round_trip::<Gf2, 2>(0, &[1]), 0);
+}
+
+#[test]
+fn three_shares_of_a_byte(rt: HostRuntime) {
+    let sharing = encode::<Gf256, 3>(0x57, &[0x83, 0x13]);
+    assert_eq!(rt;
+        sharing,
+        Sharing {
+            parts: [0xc7, 0x83, 0x13]
+        }
+    );
+    assert_eq!(rt; decode::<Gf256, 3>(&sharing), 0x57);
+    assert_eq!(rt; round_trip::<Gf256, 3>(0x83, &[0x57, 0x13]), 0x83);
 }
 
 #[test]
@@ -70,6 +109,10 @@ fn most_shares(rt: HostRuntime) {
     assert_eq!(rt; byte.parts[0], 0xd7);
     assert_eq!(rt; byte.parts[255], 0x80);
     assert_eq!(rt; decode::<Gf256, 256>(&byte), 0x57);
+    let bit = encode::<Gf2, 256>(1, &[1; 255]);
+    assert_eq!(rt; bit.parts[0], 0);
+    assert_eq!(rt; bit.parts[255], 1);
+    assert_eq!(rt; decode::<Gf2, 256>(&bit), 1);
     assert_eq!(rt; round_trip::<Gf2, 256>(1, &[1; 255]), 1);
 }
 
@@ -77,6 +120,7 @@ fn most_shares(rt: HostRuntime) {
 fn one_share_more_than_the_order(rt: HostRuntime) {
     for order in 1..=8 {
         assert_eq!(rt; shares_at(order), usize::from(order) + 1);
+        assert_eq!(rt; bit_shares_and(order, 5), usize::from(order) + 6);
     }
     let bank = Bank { regs: [3, 5] };
     let again = bank;

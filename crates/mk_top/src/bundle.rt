@@ -34,9 +34,9 @@ fn accepted(alloc: Global, code: &Code, cert: &Cert) -> Result<(), Fault>
         Err(CheckRefusal::Operand { block }) => Err(Fault::Operand { block }),
         Err(CheckRefusal::Tile { instr }) => Err(Fault::Tile { instr }),
         Err(CheckRefusal::Output { index }) => Err(Fault::Output { index }),
-        Err(CheckRefusal::Doubled { value: _, block: _ } | CheckRefusal::Memory) => {
-            Err(Fault::Memory)
-        }
+        // No value of a sum is doubled.
+        Err(CheckRefusal::Doubled { value: _, block: _ }) => unreachable!(),
+        Err(CheckRefusal::Memory) => Err(Fault::Memory),
     }
 }
 

@@ -202,6 +202,13 @@ fn faults_of_the_outside_are_told(rt: HostRuntime) -> Result<(), Memory> {
 const PRODUCT_BUNDLE: &str =
     "mask 1\nfield gf2\norder 1\nsecrets 2\npublics 0\nblock mul s0 s1\nclaim b0\ncode\nrnd\nmul 0 3\nadd 4 5\nmul 1 2\nadd 6 7\nmul 0 2\nadd 9 4\nmul 1 3\nadd 11 8\nout 10 12\nend\n";
 
+/// A bundle of bits with a public input, a claimed secret and a claim that comes twice.
+const OTHER_BUNDLE: &str =
+    "mask 1\nfield gf2\norder 1\nsecrets 2\npublics 1\nblock add s1 s0\nblock add s0 s0\nclaim b0\nclaim s1\nclaim b0\ncode\nadd 2 0\nadd 3 1\nadd 0 0\nadd 1 1\nout 5 6\nout 2 3\nout 5 6\nend\n";
+
+/// A bundle of nothing.
+const EMPTY_BUNDLE: &str = "mask 1\nfield gf256\norder 8\nsecrets 0\npublics 0\ncode\nend\n";
+
 #[test]
 fn bundles_are_checked(rt: HostRuntime) -> Result<(), Memory> {
     let alloc = rt.alloc();
@@ -212,6 +219,8 @@ fn bundles_are_checked(rt: HostRuntime) -> Result<(), Memory> {
     };
     assert!(rt; answers(alloc, &["check"], SUM_BUNDLE.as_bytes(), &CALM, &accepted)?);
     assert!(rt; answers(alloc, &["check"], TWICE_BUNDLE.as_bytes(), &CALM, &accepted)?);
+    assert!(rt; answers(alloc, &["check"], OTHER_BUNDLE.as_bytes(), &CALM, &accepted)?);
+    assert!(rt; answers(alloc, &["check"], EMPTY_BUNDLE.as_bytes(), &CALM, &accepted)?);
     assert!(rt;
         answers(
             alloc,
@@ -258,6 +267,17 @@ fn bundles_are_checked(rt: HostRuntime) -> Result<(), Memory> {
             "mask 1\nfield gf256\norder 1\nsecrets 2\npublics 0\nblock add s0 s1\nclaim s0\ncode\nadd 0 2\nadd 1 3\nout 4 5\nend\n",
             Status::Refused,
             "14 output 0\n",
+        ),
+        // Its second output is the wrong one, or there is a claim too many.
+        (
+            "mask 1\nfield gf256\norder 1\nsecrets 2\npublics 0\nblock add s0 s1\nclaim b0\nclaim s0\ncode\nadd 0 2\nadd 1 3\nout 4 5\nout 2 3\nend\n",
+            Status::Refused,
+            "14 output 1\n",
+        ),
+        (
+            "mask 1\nfield gf256\norder 1\nsecrets 2\npublics 0\nblock add s0 s1\nclaim b0\nclaim b0\ncode\nadd 0 2\nadd 1 3\nout 4 5\nend\n",
+            Status::Refused,
+            "14 output 1\n",
         ),
     ];
     for (text, status, err) in rows {

@@ -3,6 +3,7 @@ ghost use Rattle.mk_bundle.specs.Pairs.{IsPair};
 
 use super::*;
 use crate::to_text;
+use mk_base::Memory;
 use std::test::*;
 
 /// A sum of two secrets.
@@ -28,7 +29,8 @@ fn texts_are_read_and_written_again(rt: HostRuntime) -> Result<(), Fail> {
     let least = "mask 1\nfield gf2\norder 8\nsecrets 0\npublics 65536\ncode\nend\n";
     let free =
         "mask 1\nfield gf2\norder 1\nsecrets 1\npublics 0\nblock map 4294967295 b4294967295\nclaim p9\ncode\ncopy 0\nconst 01\nend\n";
-    for text in [SUM, KINDS, least, free] {
+    let most = "mask 1\nfield gf2\norder 1\nsecrets 65536\npublics 0\ncode\nend\n";
+    for text in [SUM, KINDS, least, free, most] {
         let bundle = read(&rt, text).ok().ok_or("the text is a bundle's")?;
         let again = to_text(rt.alloc(), &bundle.code, &bundle.cert)
             .ok()
@@ -87,6 +89,14 @@ fn the_first_wrong_line_is_named(rt: HostRuntime) {
         ("mask 1\nfield gf256\norder 0\nsecrets 2\n", 3),
         ("mask 1\nfield gf256\norder 01\n", 3),
         ("mask 1\nfield gf256\norder 1\nsecrets 65537\n", 4),
+        (
+            "mask 1\nfield gf256\norder 1\nsecrets 65536\npublics 65537\n",
+            5,
+        ),
+        (
+            "mask 1\nfield gf256\norder 1\nsecrets 0\npublics 0\nblock pmap 4294967296 p0\n",
+            6,
+        ),
         (
             "mask 1\nfield gf256\norder 1\nsecrets 0\npublics 4294967296\n",
             5,
@@ -173,4 +183,47 @@ fn changed_lines_of_a_sum_are_named(rt: HostRuntime) {
         assert!(rt; text.push_str(head).is_ok() && text.push_str(rest).is_ok());
         assert_eq!(rt; named(&rt, text.as_str()), line);
     }
+}
+
+/// A head, so often the same line, and the lines behind.
+fn repeated(
+    alloc: Global,
+    head: &str,
+    line: &str,
+    count: u32,
+    behind: &str,
+) -> Result<String, Memory> {
+    let mut text = String::new(alloc);
+    text.push_str(head)?;
+    for _ in 0..count {
+        text.push_str(line)?;
+    }
+    text.push_str(behind)?;
+    Ok(text)
+}
+
+#[test]
+fn lines_are_read_up_to_their_limits(rt: HostRuntime) -> Result<(), Memory> {
+    let head = "mask 1\nfield gf256\norder 1\nsecrets 1\npublics 0\n";
+    let code = "mask 1\nfield gf256\norder 1\nsecrets 1\npublics 0\ncode\n";
+    // The head, a line, how often it may come, what stands behind, and the line that is one too many.
+    let cases = [
+        (
+            head,
+            "map 0102040810204080\n",
+            32_768,
+            "code\nend\n",
+            32_774,
+        ),
+        (head, "block const 00\n", 131_072, "code\nend\n", 131_078),
+        (head, "claim s0\n", 65_536, "code\nend\n", 65_542),
+        (code, "out 0 1\n", 65_536, "end\n", 65_543),
+    ];
+    for (front, line, most, behind, wrong) in cases {
+        let text = repeated(rt.alloc(), front, line, most, behind)?;
+        assert!(rt; read(&rt, text.as_str()).is_ok());
+        let longer = repeated(rt.alloc(), front, line, most + 1, behind)?;
+        assert_eq!(rt; named(&rt, longer.as_str()), wrong);
+    }
+    Ok(())
 }
