@@ -1,4 +1,3 @@
-pub mod AddTemplate
 pub mod Places
 pub mod Sums
 pub mod Rows

@@ -1,0 +1,2 @@
+pub mod Gadget
+pub mod Template
