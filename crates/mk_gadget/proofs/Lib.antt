@@ -1,1 +1,4 @@
 pub mod AddTemplate
+pub mod Rows
+pub mod Emitting
+pub mod Values

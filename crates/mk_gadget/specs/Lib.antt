@@ -1,2 +1,3 @@
 pub mod Gadget
 pub mod Template
+pub mod Emitted

@@ -3,5 +3,7 @@
 #![tactic(auto)]
 
 mod emit;
+mod linear;
 
 pub use emit::push_sum;
+pub use linear::{emit_add, emit_add_public, emit_lift, emit_map, emit_scale_public, emit_sq};
