@@ -3,3 +3,4 @@ pub mod Sums
 pub mod Rows
 pub mod Claims
 pub mod Examples
+pub mod Prices
