@@ -2,3 +2,4 @@ pub mod AddTemplate
 pub mod Rows
 pub mod Emitting
 pub mod Values
+pub mod Lifted
