@@ -7,7 +7,7 @@ use Rattle.std.proofs.Math.Nat.{mul-le-mul_right}
 use Rattle.mk_code.specs.Listing.{Listing, IsListing}
 use Rattle.mk_ssa.specs.declared.Op.{Op}
 use Rattle.mk_ssa.specs.declared.Operand.{Operand}
-use Rattle.mk_rules.specs.Gadget.{Gadget}
+use Rattle.mk_gadget.specs.Gadget.{Gadget}
 use Rattle.mk_rules.specs.Tiles.{banks_of, value_number}
 use Rattle.mk_rules.specs.Wired.{IsSharedThere, Wired}
 use Rattle.mk_rules.specs.Places.{output_places, IsClaimed}

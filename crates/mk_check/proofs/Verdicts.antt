@@ -5,7 +5,7 @@ use Rattle.mk_code.specs.Listing.{Listing}
 use Rattle.mk_code.specs.Private.{Private}
 use Rattle.mk_code.proofs.Columns.{columns-private}
 use Rattle.mk_rules.specs.Claimed.{Claimed}
-use Rattle.mk_rules.specs.Gadget.{Gadget}
+use Rattle.mk_gadget.specs.Gadget.{Gadget}
 use Rattle.mk_rules.specs.Accepts.{Accepts, Outputs}
 use Rattle.mk_rules.specs.Tiles.{Tiles, laid, input_banks, first_place}
 use Rattle.mk_rules.specs.Wired.{Wired}

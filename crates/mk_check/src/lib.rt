@@ -7,7 +7,7 @@
 ghost use Rattle.std.specs.Prelude.{◌≡◌, ◌≢◌, ℕ, OnOk, Ok, Err};
 ghost use Rattle.mk_code.specs.Private.{Private};
 ghost use Rattle.mk_ssa.specs.declared.Operand.{Operand};
-ghost use Rattle.mk_rules.specs.Gadget.{Gadget};
+ghost use Rattle.mk_gadget.specs.Gadget.{Gadget};
 ghost use Rattle.mk_rules.specs.Accepts.{Accepts};
 ghost use Rattle.mk_rules.specs.Tiles.{Tiles};
 ghost use Rattle.mk_rules.specs.Wired.{Wired};

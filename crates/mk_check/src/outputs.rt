@@ -2,7 +2,7 @@
 
 ghost use Rattle.std.specs.Prelude.{◌≡◌, ◌+◌, ◌*◌, ◌<◌, ◌^◌, ◌↔◌, ℕ, IsTrue, MatchOption, length};
 ghost use Rattle.std.specs.List.{range_with_len};
-ghost use Rattle.mk_rules.specs.Gadget.{Gadget};
+ghost use Rattle.mk_gadget.specs.Gadget.{Gadget};
 ghost use Rattle.mk_rules.specs.Wired.{Wired};
 ghost use Rattle.mk_rules.specs.Accepts.{Outputs};
 ghost use Rattle.mk_rules.specs.Places.{output_places, IsClaimed, FirstWrongOutput};

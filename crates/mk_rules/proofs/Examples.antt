@@ -4,7 +4,7 @@ use Rattle.std.proofs.lemmas.List.Elements.{All-from_recursion}
 use Rattle.std.proofs.lemmas.Option.{same_Some}
 use Rattle.mk_code.specs.Examples.{byte_sum, leaking_square}
 use Rattle.mk_ssa.specs.Kinds.{Linear, Strong}
-use Rattle.mk_rules.specs.Gadget.{Gadget}
+use Rattle.mk_gadget.specs.Gadget.{Gadget}
 use Rattle.mk_rules.specs.Tiles.{laid, laid_banks}
 use Rattle.mk_rules.specs.Wired.{IsSharedThere}
 use Rattle.mk_rules.specs.Reaches.{links, IsPath, Reaches, Undoubled}

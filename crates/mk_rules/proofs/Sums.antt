@@ -17,13 +17,13 @@ use Rattle.mk_ssa.specs.declared.Operand.TheVariants.{Secret, Public, Block}
 use Rattle.mk_ssa.specs.declared.Op.{Op}
 use Rattle.mk_ssa.specs.declared.Op.TheVariants.{Add}
 use Rattle.mk_ssa.specs.Kinds.{is_public, Linear, Strong}
-use Rattle.mk_rules.specs.Gadget.{Gadget, placed, placed_outs}
-use Rattle.mk_rules.specs.Template.{template}
+use Rattle.mk_gadget.specs.Gadget.{Gadget, placed, placed_outs}
+use Rattle.mk_gadget.specs.Template.{template}
 use Rattle.mk_rules.specs.Tiles.{value_number, input_banks, laid, laid_banks, reads, first_place, banks_of}
 use Rattle.mk_rules.specs.Wired.{IsSharedThere, AllWired, Wired}
 use Rattle.mk_rules.specs.Reaches.{Link, links, Undoubled}
 use Rattle.mk_rules.specs.Sums.{IsSum, AreSums, first_share, share_sum, sum_rows, sums_of}
-use Rattle.mk_rules.proofs.AddTemplate.{placed-add-ranges, placed_outs-add}
+use Rattle.mk_gadget.proofs.AddTemplate.{placed-add-ranges, placed_outs-add}
 
 -- each block is a sum, by recursion
 abbrev pub AllSums : List Op → Type 0

@@ -5,7 +5,7 @@ use Rattle.mk_code.specs.Listing.{Listing}
 use Rattle.mk_ssa.specs.declared.Op.{Op}
 use Rattle.mk_ssa.specs.declared.Operand.{Operand}
 use Rattle.mk_rules.specs.Claimed.{Claimed}
-use Rattle.mk_rules.specs.Gadget.{Gadget}
+use Rattle.mk_gadget.specs.Gadget.{Gadget}
 use Rattle.mk_rules.specs.Tiles.{Tiles, banks_of, value_number}
 use Rattle.mk_rules.specs.Wired.{Wired, IsSharedThere}
 use Rattle.mk_rules.specs.Reaches.{Undoubled, links}

@@ -1,6 +1,4 @@
 pub mod Claimed
-pub mod Gadget
-pub mod Template
 pub mod Tiles
 pub mod Wired
 pub mod Reaches

@@ -3,7 +3,7 @@ use Rattle.std.specs.Prelude.{◌≡◌, ◌≢◌, ℕ, ◌+◌, ◌*◌, ◌<�
 use Rattle.mk_code.specs.Listing.{Listing}
 use Rattle.mk_ssa.specs.declared.Op.{Op}
 use Rattle.mk_ssa.specs.declared.Operand.{Operand}
-use Rattle.mk_rules.specs.Gadget.{Gadget}
+use Rattle.mk_gadget.specs.Gadget.{Gadget}
 use Rattle.mk_rules.specs.Tiles.{banks_of, value_number, laid, input_banks, first_place}
 use Rattle.mk_rules.specs.Wired.{IsSharedThere, IsWired, Wired}
 

@@ -7,8 +7,8 @@ use Rattle.mk_ssa.specs.declared.Operand.{Operand}
 use Rattle.mk_ssa.specs.declared.Operand.TheVariants.{Secret, Public, Block}
 use Rattle.mk_ssa.specs.declared.Op.{Op}
 use Rattle.mk_ssa.specs.Kinds.{shared_operands, public_operands}
-use Rattle.mk_rules.specs.Gadget.{Gadget, placed, placed_outs}
-use Rattle.mk_rules.specs.Template.{template}
+use Rattle.mk_gadget.specs.Gadget.{Gadget, placed, placed_outs}
+use Rattle.mk_gadget.specs.Template.{template}
 
 -- the number of a value: first the secrets, then the publics, then the blocks
 abbrev pub value_number : Listing → Operand → ℕ

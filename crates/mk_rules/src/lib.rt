@@ -1,9 +1,9 @@
 //! Certificates: the list of blocks that a code is made of, and the claims that say which values its
-//! outputs share; and templates placed in a code in the making.
+//! outputs share; and what blocks cost.
 #![tactic(auto)]
 
 mod cert;
-mod emit;
+mod costs;
 
 pub use cert::{Bundle, Cert};
-pub use emit::push_sum;
+pub use costs::{Price, cost};

@@ -12,12 +12,12 @@ use Rattle.mk_ssa.specs.declared.Operand.TheVariants.{Secret, Public, Block}
 use Rattle.mk_ssa.specs.declared.Op.{Op}
 use Rattle.mk_ssa.specs.declared.Op.TheVariants.{Add}
 use Rattle.mk_ssa.specs.Kinds.{is_public, Linear, Strong}
-use Rattle.mk_rules.specs.Gadget.{Gadget, placed, placed_outs}
-use Rattle.mk_rules.specs.Template.{template}
+use Rattle.mk_gadget.specs.Gadget.{Gadget, placed, placed_outs}
+use Rattle.mk_gadget.specs.Template.{template}
 use Rattle.mk_rules.specs.Tiles.{value_number, input_banks, laid, laid_banks, reads}
 use Rattle.mk_rules.specs.Wired.{IsSharedThere, AllWired}
 use Rattle.mk_rules.specs.Reaches.{Link, links, Undoubled}
-use Rattle.mk_rules.proofs.AddTemplate.{adds, placed-add-ranges, placed_outs-add}
+use Rattle.mk_gadget.proofs.AddTemplate.{adds, placed-add-ranges, placed_outs-add}
 use Rattle.mk_top.specs.Chain.{additions, whole, chain, last}
 
 pub length-adds : (n : ℕ) (left right : ℕ → ℕ) → length (adds n left right) ≡ n

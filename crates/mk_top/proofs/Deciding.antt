@@ -4,7 +4,7 @@ use Rattle.std.proofs.lemmas.Bool.{cases_lt}
 use Rattle.std.proofs.lemmas.List.{append-nil}
 use Rattle.mk_code.specs.Listing.{Listing}
 use Rattle.mk_rules.specs.Claimed.{Claimed}
-use Rattle.mk_rules.specs.Gadget.{Gadget}
+use Rattle.mk_gadget.specs.Gadget.{Gadget}
 use Rattle.mk_rules.proofs.Places.{FirstUnwired-not, FirstUnwired-only, FirstMismatch-not, FirstMismatch-only, FirstWrongOutput-only}
 use Rattle.mk_rules.proofs.Claims.{FirstWrongOutput-not}
 use Rattle.mk_bundle.specs.Text.{text}

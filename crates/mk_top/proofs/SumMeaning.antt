@@ -22,7 +22,7 @@ use Rattle.mk_ssa.specs.declared.Operand.{Operand}
 use Rattle.mk_ssa.specs.declared.Operand.TheVariants.{Secret, Block}
 use Rattle.mk_ssa.specs.declared.Op.{Op}
 use Rattle.mk_rules.specs.Claimed.{Claimed}
-use Rattle.mk_rules.specs.Gadget.{Gadget}
+use Rattle.mk_gadget.specs.Gadget.{Gadget}
 use Rattle.mk_rules.specs.Tiles.{input_banks, first_place, laid_banks, value_number}
 use Rattle.mk_rules.specs.Wired.{IsSharedThere}
 use Rattle.mk_rules.specs.Accepts.{Accepts}

@@ -14,8 +14,8 @@ use Rattle.mk_code.specs.Private.{observation}
 use Rattle.mk_code.specs.Counting.{AllBelow}
 use Rattle.mk_code.proofs.Runs.{run-append as run-split}
 use Rattle.mk_ssa.specs.declared.Operand.TheVariants.{Secret}
-use Rattle.mk_rules.specs.Gadget.{Gadget}
-use Rattle.mk_rules.proofs.AddTemplate.{adds, map-range-same, placed-add-ranges, randoms-adds, AllBelow-range, AddsSharings, run-add}
+use Rattle.mk_gadget.specs.Gadget.{Gadget}
+use Rattle.mk_gadget.proofs.AddTemplate.{adds, map-range-same, placed-add-ranges, randoms-adds, AllBelow-range, AddsSharings, run-add}
 use Rattle.mk_top.specs.Chain.{chain, last}
 
 -- a run of two lists of instructions, the first of which takes no random element

@@ -5,7 +5,7 @@ use Rattle.mk_base.specs.Streams.{CameWithin, TakesPrefix}
 use Rattle.mk_code.specs.Listing.{Listing}
 use Rattle.mk_code.specs.Private.{Private}
 use Rattle.mk_rules.specs.Claimed.{Claimed}
-use Rattle.mk_rules.specs.Gadget.{Gadget}
+use Rattle.mk_gadget.specs.Gadget.{Gadget}
 use Rattle.mk_rules.specs.Wired.{Wired}
 use Rattle.mk_rules.specs.Tiles.{Tiles}
 use Rattle.mk_rules.specs.Accepts.{Accepts}

@@ -3,7 +3,7 @@ use Rattle.std.specs.Prelude.{◌≡◌, ℕ, List, [], length, map}
 use Rattle.mk_field.specs.declared.field.FieldId.TheVariants.{Gf256}
 use Rattle.mk_code.specs.Listing.{Listing}
 use Rattle.mk_rules.specs.Claimed.{Claimed}
-use Rattle.mk_rules.specs.Gadget.{Gadget}
+use Rattle.mk_gadget.specs.Gadget.{Gadget}
 use Rattle.mk_rules.specs.Accepts.{Accepts}
 use Rattle.mk_top.specs.declared.first.Program.{Program}
 use Rattle.mk_top.specs.Chain.{blocks_of_sum, value_of_sum}

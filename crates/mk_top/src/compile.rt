@@ -17,7 +17,8 @@ use crate::first::Program;
 use mk_base::{Items, Memory};
 use mk_code::{CodeBuilder, PositionList};
 use mk_field::Gf256;
-use mk_rules::{Bundle, Cert, push_sum};
+use mk_gadget::push_sum;
+use mk_rules::{Bundle, Cert};
 use mk_ssa::{Op, Operand};
 use std::alloc::Global;
 

@@ -1,6 +1,6 @@
 -- The claims so far are those of their outputs.
 use Rattle.std.proofs.Common.{◌<◌, ℕ}
-use Rattle.mk_rules.specs.Gadget.{Gadget}
+use Rattle.mk_gadget.specs.Gadget.{Gadget}
 use Rattle.mk_rules.specs.Places.{IsClaimed}
 use Rattle.mk_check.proofs.outputs.first_wrong_output.Given as goal
 

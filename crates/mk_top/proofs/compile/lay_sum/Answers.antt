@@ -7,8 +7,8 @@ use Rattle.mk_code.specs.declared.instr.Instr.{Instr}
 use Rattle.mk_ssa.specs.declared.Op.TheVariants.{Add}
 use Rattle.mk_ssa.specs.declared.Operand.TheVariants.{Block, Secret}
 use Rattle.mk_rules.specs.Claimed.{Claimed}
-use Rattle.mk_rules.specs.Gadget.{Gadget}
-use Rattle.mk_rules.proofs.AddTemplate.{placed-add-ranges, AllBelow-at}
+use Rattle.mk_gadget.specs.Gadget.{Gadget}
+use Rattle.mk_gadget.proofs.AddTemplate.{placed-add-ranges, AllBelow-at}
 use Rattle.mk_code.specs.Draft.{Draft, draft_len}
 use Rattle.mk_top.specs.Chain.{sums}
 use Rattle.mk_top.proofs.Laying.{Laying, Laying-more, Laying-all, product-le, draft_len-from, room-step}

@@ -5,8 +5,8 @@ ghost use Rattle.std.specs.List.{range_with_len};
 ghost use Rattle.mk_code.specs.Draft.{draft_len};
 ghost use Rattle.mk_ssa.specs.declared.Operand.{Operand};
 ghost use Rattle.mk_ssa.specs.declared.Op.TheVariants.{Add};
-ghost use Rattle.mk_rules.specs.Gadget.{Gadget, placed};
-ghost use Rattle.mk_rules.specs.Template.{template};
+ghost use Rattle.mk_gadget.specs.Gadget.{Gadget, placed};
+ghost use Rattle.mk_gadget.specs.Template.{template};
 
 use mk_code::{CodeBuilder, Instr};
 use mk_field::Field;

@@ -15,8 +15,8 @@ use Rattle.mk_code.specs.Counting.{AllBelow}
 use Rattle.mk_code.specs.Private.{observation}
 use Rattle.mk_ssa.specs.declared.Operand.{Operand}
 use Rattle.mk_ssa.specs.declared.Op.TheVariants as op
-use Rattle.mk_rules.specs.Gadget.{Gadget, placement, moved, placed, placed_outs}
-use Rattle.mk_rules.specs.Template.{template}
+use Rattle.mk_gadget.specs.Gadget.{Gadget, placement, moved, placed, placed_outs}
+use Rattle.mk_gadget.specs.Template.{template}
 
 -- the sums of the entries at two banks of places, share by share
 abbrev pub adds : ℕ → (ℕ → ℕ) → (ℕ → ℕ) → List Instr

@@ -1,7 +1,7 @@
 -- The sums of the shares so far were appended.
 use Rattle.std.proofs.Common.{◌≡◌, ◌+◌, ◌++◌, ◌-◌}
-use Rattle.mk_rules.proofs.AddTemplate.{adds}
-use Rattle.mk_rules.proofs.emit.push_sum.Given as goal
+use Rattle.mk_gadget.proofs.AddTemplate.{adds}
+use Rattle.mk_gadget.proofs.emit.push_sum.Given as goal
 
 abbrev pub invariant-loop-share : goal.invariant-loop-share
 invariant-loop-share g l =

@@ -5,8 +5,8 @@ use Rattle.std.proofs.lemmas.List.FromFn.{length-map-range_with_len, map-range_w
 use Rattle.mk_code.specs.declared.instr.Instr.TheVariants as instr
 use Rattle.mk_code.specs.declared.instr.Instr.{Instr}
 use Rattle.mk_code.specs.Draft.{Draft, draft_len}
-use Rattle.mk_rules.proofs.AddTemplate.{adds, placed-add-ranges}
-use Rattle.mk_rules.proofs.emit.push_sum.Goals as goal
+use Rattle.mk_gadget.proofs.AddTemplate.{adds, placed-add-ranges}
+use Rattle.mk_gadget.proofs.emit.push_sum.Goals as goal
 
 pub overflow_add-left : goal.overflow_add-left
 overflow_add-left g c = grind (arith, c.requires.left, c.requires.small)

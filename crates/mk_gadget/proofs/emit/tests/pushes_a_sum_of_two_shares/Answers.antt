@@ -3,8 +3,8 @@ use Rattle.std.proofs.Common.{arith, ◌≡◌, ◌<◌, [], ap, ◌∙◌}
 use Rattle.std.proofs.lemmas.List.Elements.{All-from_recursion}
 use Rattle.mk_code.specs.Draft.{Draft, draft_len}
 use Rattle.mk_ssa.specs.declared.Operand.TheVariants.{Secret}
-use Rattle.mk_rules.specs.Gadget.{Gadget}
-use Rattle.mk_rules.proofs.emit.tests.pushes_a_sum_of_two_shares.Goals as goal
+use Rattle.mk_gadget.specs.Gadget.{Gadget}
+use Rattle.mk_gadget.proofs.emit.tests.pushes_a_sum_of_two_shares.Goals as goal
 
 pub finish-code-requires : goal.finish-code-requires
 finish-code-requires g c =

@@ -1,0 +1,5 @@
+pub mod AddTemplate
+pub mod Rows
+pub mod Emitting
+pub mod Values
+pub mod Lifted

@@ -1,0 +1,40 @@
+-- One more product was appended.
+use Rattle.std.proofs.Common.{arith, ◌+◌, [], ◌∷◌, ◌++◌, slice_index}
+use Rattle.std.proofs.lemmas.List.{length-replicate}
+use Rattle.mk_code.specs.declared.instr.Instr.TheVariants as instr
+use Rattle.mk_code.specs.Draft.{draft_len}
+use Rattle.mk_gadget.specs.Template.{scaling}
+use Rattle.mk_gadget.proofs.AddTemplate.{AllBelow-at}
+use Rattle.mk_gadget.proofs.Emitting.{Emitting-start, Emitting-length, Emitting-fits, Emitting-more, Emitting-all}
+use Rattle.mk_gadget.proofs.Values.{scaling-row, scaling-placed, scaling-gives, outs-behind, bank-and-one}
+use Rattle.mk_gadget.proofs.linear.emit_scale_public.Goals as goal
+
+pub loop-share-init : goal.loop-share-init
+loop-share-init g c =
+    Emitting-start c.args.builder.now c.reserve.new.self (scaling-row c.args.x.now.regs c.args.p) g.row.N _ c.in_ok-reserve.ensures.same c.in_ok-reserve.ensures.ok (length-replicate g.row.N 0)
+
+pub push-requires-clause-room : goal.push-requires-clause-room
+push-requires-clause-room g c = omega (arith, c.loop-share.invariant.room)
+
+pub push-requires-clause-few : goal.push-requires-clause-few
+push-requires-clause-few g c = omega (arith, Emitting-length c.args.builder.now c.loop-share.builder (scaling-row c.args.x.now.regs c.args.p) g.row.N c.loop-share.share c.loop-share.regs c.loop-share.invariant, c.requires.few)
+
+pub push-requires-clause-fits : goal.push-requires-clause-fits
+push-requires-clause-fits g c =
+    Emitting-fits g.F.Field.ID c.args.builder.now c.loop-share.builder (scaling-row c.args.x.now.regs c.args.p) g.row.N c.loop-share.share c.loop-share.regs (instr.Mul (slice_index c.args.x.now.regs c.loop-share.share) c.args.p) c.loop-share.invariant
+    (AllBelow-at (draft_len c.args.builder.now) c.args.x.now.regs c.loop-share.share c.requires.shared (omega (arith, c.loop-share-test.true)), c.requires.public)
+
+pub loop-share-preserved : goal.loop-share-preserved
+loop-share-preserved g c =
+    Emitting-more c.args.builder.now c.loop-share.builder c.push.new.self (scaling-row c.args.x.now.regs c.args.p) g.row.N c.loop-share.share c.loop-share.regs c.push.result c.loop-share.invariant
+    (omega arith) c.push.ensures.pushed c.push.ensures.place
+
+pub returns-clause-emitted : goal.returns-clause-emitted
+returns-clause-emitted g c =
+    Emitting-all c.args.builder.now c.loop-share.builder (scaling-row c.args.x.now.regs c.args.p) g.row.N c.loop-share.share c.loop-share.regs (c.args.x.now.regs ++ c.args.p ∷ []) (scaling g.row.N) c.loop-share.invariant
+    (omega (arith, c.loop-share.auto.share-end, c.loop-share-test.false))
+    (scaling-placed g.row.N (draft_len c.args.builder.now) c.args.x.now.regs c.args.p (omega arith))
+    (outs-behind (c.args.x.now.regs ++ c.args.p ∷ []) (draft_len c.args.builder.now) (g.row.N + 1) g.row.N (bank-and-one c.args.x.now.regs c.args.p g.row.N (omega arith)))
+
+pub returns-clause-value : goal.returns-clause-value
+returns-clause-value g c = scaling-gives _ _ g.row.N _ c.args.x.now.regs c.args.p (omega arith) c.requires.shared c.requires.public

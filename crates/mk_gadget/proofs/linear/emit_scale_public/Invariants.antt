@@ -1,0 +1,7 @@
+-- The products of the shares so far were appended.
+use Rattle.mk_gadget.proofs.Emitting.{Emitting}
+use Rattle.mk_gadget.proofs.Values.{scaling-row}
+use Rattle.mk_gadget.proofs.linear.emit_scale_public.Given as goal
+
+abbrev pub invariant-loop-share : goal.invariant-loop-share
+invariant-loop-share g l = Emitting l.fn.builder l.builder (scaling-row l.x.regs l.p) g.row.N l.share l.regs

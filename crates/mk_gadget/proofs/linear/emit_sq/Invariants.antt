@@ -1,0 +1,7 @@
+-- The squares of the shares so far were appended.
+use Rattle.mk_gadget.proofs.Emitting.{Emitting}
+use Rattle.mk_gadget.proofs.Values.{squaring-row}
+use Rattle.mk_gadget.proofs.linear.emit_sq.Given as goal
+
+abbrev pub invariant-loop-share : goal.invariant-loop-share
+invariant-loop-share g l = Emitting l.fn.builder l.builder (squaring-row l.x.regs) g.row.N l.share l.regs

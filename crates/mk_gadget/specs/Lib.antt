@@ -1,0 +1,3 @@
+pub mod Gadget
+pub mod Template
+pub mod Emitted
