@@ -1,5 +1,5 @@
 //! Certificates: the list of blocks that a code is made of, and the claims that say which values its
-//! outputs share; and what blocks cost.
+//! outputs share; what blocks cost; and, as definitions, the rule by which code is accepted with one.
 #![tactic(auto)]
 
 mod cert;
