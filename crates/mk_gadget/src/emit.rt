@@ -12,21 +12,23 @@ use mk_code::{CodeBuilder, Instr};
 use mk_field::Field;
 
 /// Appends the template of a sum of two values, whose shares stand at neighbouring places from `left`
-/// and from `right` on. Room for it was reserved.
-pub fn push_sum<F: Field>(builder: &mut CodeBuilder<F>, shares: u32, left: u32, right: u32)
+/// and from `right` on, and answers where those of the sum begin. Room for it was reserved.
+pub fn push_sum<F: Field>(builder: &mut CodeBuilder<F>, shares: u32, left: u32, right: u32) -> u32
     requires room { shares ≤ builder.old.spare }
     requires few { length builder.old.instrs + shares ≤ 8388608 }
-    requires small { draft_len builder.old < 2 ^ 32 }
     requires left { left + shares ≤ draft_len builder.old }
     requires right { right + shares ≤ draft_len builder.old }
-    ensures { (product refresh : Gadget) → (a b : Operand) → (builder.new ≡ record builder.old { instrs = builder.old.instrs ++ placed (range_with_len left shares ++ range_with_len right shares) (draft_len builder.old) (template shares product refresh (Add a b)); spare = builder.old.spare - shares }) }
+    ensures place { result ≡ draft_len builder.old }
+    ensures placed { (product refresh : Gadget) → (a b : Operand) → (builder.new ≡ record builder.old { instrs = builder.old.instrs ++ placed (range_with_len left shares ++ range_with_len right shares) (draft_len builder.old) (template shares product refresh (Add a b)); spare = builder.old.spare - shares }) }
 {
+    let place = builder.len();
     for share in 0..shares {
         builder.push(Instr::Add {
             left: left + share,
             right: right + share,
         });
     }
+    place
 }
 
 #[cfg(test)]
@@ -40,7 +42,7 @@ mod tests {
         let alloc = rt.alloc();
         let mut builder = CodeBuilder::<Gf256>::new(alloc, 1, 2, 0, Items::new(alloc));
         builder.reserve(2)?;
-        push_sum(&mut builder, 2, 0, 2);
+        assert_eq!(rt; push_sum(&mut builder, 2, 0, 2), 4);
         let code = builder.finish(Items::new(alloc));
         assert_eq!(rt;
             code.instrs().as_slice(),

@@ -25,7 +25,6 @@ pub fn emit_add<F: Field, const N: usize>(
     y: &Bank<N>,
 ) -> Result<Bank<N>, Memory>
     requires least { 2 ≤ N }
-    requires most { N ≤ 256 }
     requires order { builder.old.order + 1 ≡ N }
     requires few { length builder.old.instrs + N ≤ 8388608 }
     requires left { AllBelow (draft_len builder.old) x.now.regs }
@@ -55,7 +54,6 @@ pub fn emit_add_public<F: Field, const N: usize>(
     p: u32,
 ) -> Result<Bank<N>, Memory>
     requires least { 2 ≤ N }
-    requires most { N ≤ 256 }
     requires order { builder.old.order + 1 ≡ N }
     requires few { length builder.old.instrs + N ≤ 8388608 }
     requires shared { AllBelow (draft_len builder.old) x.now.regs }
@@ -87,7 +85,6 @@ pub fn emit_scale_public<F: Field, const N: usize>(
     p: u32,
 ) -> Result<Bank<N>, Memory>
     requires least { 2 ≤ N }
-    requires most { N ≤ 256 }
     requires order { builder.old.order + 1 ≡ N }
     requires few { length builder.old.instrs + N ≤ 8388608 }
     requires shared { AllBelow (draft_len builder.old) x.now.regs }
@@ -114,7 +111,6 @@ pub fn emit_sq<F: Field, const N: usize>(
     x: &Bank<N>,
 ) -> Result<Bank<N>, Memory>
     requires least { 2 ≤ N }
-    requires most { N ≤ 256 }
     requires order { builder.old.order + 1 ≡ N }
     requires few { length builder.old.instrs + N ≤ 8388608 }
     requires shared { AllBelow (draft_len builder.old) x.now.regs }
@@ -141,7 +137,6 @@ pub fn emit_map<F: Field, const N: usize>(
     x: &Bank<N>,
 ) -> Result<Bank<N>, Memory>
     requires least { 2 ≤ N }
-    requires most { N ≤ 256 }
     requires order { builder.old.order + 1 ≡ N }
     requires few { length builder.old.instrs + N ≤ 8388608 }
     requires map { map < length builder.old.maps }
@@ -169,7 +164,6 @@ pub fn emit_lift<F: Field, const N: usize>(
     p: u32,
 ) -> Result<Bank<N>, Memory>
     requires least { 2 ≤ N }
-    requires most { N ≤ 256 }
     requires order { builder.old.order + 1 ≡ N }
     requires few { length builder.old.instrs + N ≤ 8388608 }
     requires public { p < draft_len builder.old }

@@ -96,8 +96,7 @@ fn lay_sum(
             left: sum.value,
             right: Operand::Secret(*number),
         })?;
-        let place = builder.len();
-        push_sum(builder, shares, sum.first, *number * shares);
+        let place = push_sum(builder, shares, sum.first, *number * shares);
         sum = Shared {
             value: Operand::Block(block as u32),
             first: place,

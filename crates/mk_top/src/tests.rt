@@ -210,7 +210,7 @@ const OTHER_BUNDLE: &str =
 const EMPTY_BUNDLE: &str = "mask 1\nfield gf256\norder 8\nsecrets 0\npublics 0\ncode\nend\n";
 
 #[test]
-fn bundles_are_checked(rt: HostRuntime) -> Result<(), Memory> {
+fn bundles_of_sums_are_accepted(rt: HostRuntime) -> Result<(), Memory> {
     let alloc = rt.alloc();
     let accepted = Answer {
         status: Status::Done,
@@ -230,6 +230,12 @@ fn bundles_are_checked(rt: HostRuntime) -> Result<(), Memory> {
             &NOT_YET
         )?
     );
+    Ok(())
+}
+
+#[test]
+fn the_first_fault_of_a_bundle_is_named(rt: HostRuntime) -> Result<(), Memory> {
+    let alloc = rt.alloc();
     // The sum of two secrets, with one line changed, left out or added.
     let rows = [
         (
@@ -288,6 +294,12 @@ fn bundles_are_checked(rt: HostRuntime) -> Result<(), Memory> {
         };
         assert!(rt; answers(alloc, &["check"], text.as_bytes(), &CALM, &refused)?);
     }
+    Ok(())
+}
+
+#[test]
+fn faults_of_the_outside_are_told_under_check(rt: HostRuntime) -> Result<(), Memory> {
+    let alloc = rt.alloc();
     let read = Outside {
         reads: &[2],
         ..CALM

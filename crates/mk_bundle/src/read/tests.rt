@@ -49,7 +49,7 @@ fn named(rt: &HostRuntime, text: &str) -> u32 {
 }
 
 #[test]
-fn the_first_wrong_line_is_named(rt: HostRuntime) {
+fn wrong_lines_are_named(rt: HostRuntime) {
     let cases = [
         // no line, a rest without a line feed, and lines behind the last
         ("", 1),
@@ -82,6 +82,15 @@ fn the_first_wrong_line_is_named(rt: HostRuntime) {
             "mask 1\nfield gf256\norder 1\nsecrets 0\npublics 0\nmap 0102040810204080 \n",
             6,
         ),
+    ];
+    for (text, line) in cases {
+        assert_eq!(rt; named(&rt, text), line);
+    }
+}
+
+#[test]
+fn wrong_heads_are_named(rt: HostRuntime) {
+    let cases = [
         // the numbers of the head
         ("mask 2\n", 1),
         ("mask 1\nfield gf3\n", 2),
@@ -101,6 +110,15 @@ fn the_first_wrong_line_is_named(rt: HostRuntime) {
             "mask 1\nfield gf256\norder 1\nsecrets 0\npublics 4294967296\n",
             5,
         ),
+    ];
+    for (text, line) in cases {
+        assert_eq!(rt; named(&rt, text), line);
+    }
+}
+
+#[test]
+fn wrong_certificates_are_named(rt: HostRuntime) {
+    let cases = [
         // maps, blocks and claims in another order or form
         (
             "mask 1\nfield gf2\norder 1\nsecrets 0\npublics 0\nmap 0102040810204080\n",
@@ -130,6 +148,15 @@ fn the_first_wrong_line_is_named(rt: HostRuntime) {
             "mask 1\nfield gf256\norder 1\nsecrets 0\npublics 0\nblock refresh x0\n",
             6,
         ),
+    ];
+    for (text, line) in cases {
+        assert_eq!(rt; named(&rt, text), line);
+    }
+}
+
+#[test]
+fn wrong_code_is_named(rt: HostRuntime) {
+    let cases = [
         // places, elements and maps that there aren't
         (
             "mask 1\nfield gf256\norder 1\nsecrets 1\npublics 0\ncode\ncopy 2\nend\n",

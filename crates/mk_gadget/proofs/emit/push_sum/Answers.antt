@@ -9,10 +9,10 @@ use Rattle.mk_gadget.proofs.AddTemplate.{adds, placed-add-ranges}
 use Rattle.mk_gadget.proofs.emit.push_sum.Goals as goal
 
 pub overflow_add-left : goal.overflow_add-left
-overflow_add-left g c = grind (arith, c.requires.left, c.requires.small)
+overflow_add-left g c = grind (arith, c.requires.left, c.len-place.ensures)
 
 pub overflow_add-right : goal.overflow_add-right
-overflow_add-right g c = grind (arith, c.requires.right, c.requires.small)
+overflow_add-right g c = grind (arith, c.requires.right, c.len-place.ensures)
 
 pub push-requires-clause-few : goal.push-requires-clause-few
 push-requires-clause-few g c =
@@ -35,8 +35,8 @@ loop-share-preserved g c =
     (append_assoc c.args.builder.now.instrs (sums c.loop-share.share) _ ∙ ap (λ (is : List Instr). c.args.builder.now.instrs ++ is) (sym more))
     ∙ ap (λ (n : ℕ). record c.args.builder.now { instrs = c.args.builder.now.instrs ++ sums (c.loop-share.share + 1); spare = n }) spare
 
-pub returns : goal.returns
-returns g c product refresh a b =
+pub returns-clause-placed : goal.returns-clause-placed
+returns-clause-placed g c product refresh a b =
     let all : c.loop-share.share ≡ c.args.shares = omega (arith, c.loop-share.auto.share-end, c.loop-share-test.false) in
     c.loop-share.invariant
     ∙ ap (λ (n : ℕ). record c.args.builder.now { instrs = c.args.builder.now.instrs ++ adds n (λ i. c.args.left + i) (λ i. c.args.right + i); spare = c.args.builder.now.spare - n }) all

@@ -20,7 +20,7 @@ emit_add-requires g c =
     let lifted : Lifted c.emit_lift.new.builder g.row.N (0 + g.row.N) =
     Lifted-more c.new-builder.result c.emit_lift.new.builder (0 ∷ []) c.in_ok-x.x.regs (lift g.row.N) g.row.N 0 start c.in_ok-x.ensures.emitted
     (omega (arith, c.requires.least, length-replicate {A = Instr} (g.row.N - 1) (Const 0))) in
-    (search rules, (omega (arith, c.requires.least), (omega (arith, c.requires.most), (lifted.order, (omega (arith, lifted.count, c.requires.most), (lifted-below c.new-builder.result c.emit_lift.new.builder c.emit_lift.new.builder c.in_ok-x.x.regs 0 g.row.N (0 + g.row.N) c.in_ok-x.ensures.emitted start lifted (omega arith), lifted-below c.new-builder.result c.emit_lift.new.builder c.emit_lift.new.builder c.in_ok-x.x.regs 0 g.row.N (0 + g.row.N) c.in_ok-x.ensures.emitted start lifted (omega arith)))))))
+    (search rules, (omega (arith, c.requires.least), (lifted.order, (omega (arith, lifted.count, c.requires.most), (lifted-below c.new-builder.result c.emit_lift.new.builder c.emit_lift.new.builder c.in_ok-x.x.regs 0 g.row.N (0 + g.row.N) c.in_ok-x.ensures.emitted start lifted (omega arith), lifted-below c.new-builder.result c.emit_lift.new.builder c.emit_lift.new.builder c.in_ok-x.x.regs 0 g.row.N (0 + g.row.N) c.in_ok-x.ensures.emitted start lifted (omega arith))))))
 
 pub emit_add_public-requires : goal.emit_add_public-requires
 emit_add_public-requires g c =
@@ -35,7 +35,7 @@ emit_add_public-requires g c =
     (omega (arith, c.requires.least, length-replicate {A = Instr} (g.row.N - 1) (Const 0))) in
     let added : Lifted c.emit_add.new.builder g.row.N (0 + g.row.N + g.row.N) =
     Lifted-more c.emit_lift.new.builder c.emit_add.new.builder _ _ (addition g.row.N) g.row.N (0 + g.row.N) lifted c.in_ok-emit_add.ensures.emitted (length-map-range_with_len _ 0 g.row.N) in
-    (search rules, (omega (arith, c.requires.least), (omega (arith, c.requires.most), (added.order, (omega (arith, added.count, c.requires.most), (lifted-below c.new-builder.result c.emit_lift.new.builder c.emit_add.new.builder c.in_ok-x.x.regs 0 g.row.N (0 + g.row.N + g.row.N) c.in_ok-x.ensures.emitted start added (omega arith), omega (arith, added.len)))))))
+    (search rules, (omega (arith, c.requires.least), (added.order, (omega (arith, added.count, c.requires.most), (lifted-below c.new-builder.result c.emit_lift.new.builder c.emit_add.new.builder c.in_ok-x.x.regs 0 g.row.N (0 + g.row.N + g.row.N) c.in_ok-x.ensures.emitted start added (omega arith), omega (arith, added.len))))))
 
 pub emit_scale_public-requires : goal.emit_scale_public-requires
 emit_scale_public-requires g c =
@@ -52,7 +52,7 @@ emit_scale_public-requires g c =
     Lifted-more c.emit_lift.new.builder c.emit_add.new.builder _ _ (addition g.row.N) g.row.N (0 + g.row.N) lifted c.in_ok-emit_add.ensures.emitted (length-map-range_with_len _ 0 g.row.N) in
     let moved : Lifted c.emit_add_public.new.builder g.row.N (0 + g.row.N + g.row.N + g.row.N) =
     Lifted-more c.emit_add.new.builder c.emit_add_public.new.builder _ _ (public_addition g.row.N) g.row.N (0 + g.row.N + g.row.N) added c.in_ok-emit_add_public.ensures.emitted (length-map-range_with_len _ 0 g.row.N) in
-    (search rules, (omega (arith, c.requires.least), (omega (arith, c.requires.most), (moved.order, (omega (arith, moved.count, c.requires.most), (lifted-below c.new-builder.result c.emit_lift.new.builder c.emit_add_public.new.builder c.in_ok-x.x.regs 0 g.row.N (0 + g.row.N + g.row.N + g.row.N) c.in_ok-x.ensures.emitted start moved (omega arith), omega (arith, moved.len)))))))
+    (search rules, (omega (arith, c.requires.least), (moved.order, (omega (arith, moved.count, c.requires.most), (lifted-below c.new-builder.result c.emit_lift.new.builder c.emit_add_public.new.builder c.in_ok-x.x.regs 0 g.row.N (0 + g.row.N + g.row.N + g.row.N) c.in_ok-x.ensures.emitted start moved (omega arith), omega (arith, moved.len))))))
 
 pub emit_sq-requires : goal.emit_sq-requires
 emit_sq-requires g c =
@@ -71,4 +71,4 @@ emit_sq-requires g c =
     Lifted-more c.emit_add.new.builder c.emit_add_public.new.builder _ _ (public_addition g.row.N) g.row.N (0 + g.row.N + g.row.N) added c.in_ok-emit_add_public.ensures.emitted (length-map-range_with_len _ 0 g.row.N) in
     let scaled : Lifted c.emit_scale_public.new.builder g.row.N (0 + g.row.N + g.row.N + g.row.N + g.row.N) =
     Lifted-more c.emit_add_public.new.builder c.emit_scale_public.new.builder _ _ (scaling g.row.N) g.row.N (0 + g.row.N + g.row.N + g.row.N) moved c.in_ok-emit_scale_public.ensures.emitted (length-map-range_with_len _ 0 g.row.N) in
-    (search rules, (omega (arith, c.requires.least), (omega (arith, c.requires.most), (scaled.order, (omega (arith, scaled.count, c.requires.most), lifted-below c.new-builder.result c.emit_lift.new.builder c.emit_scale_public.new.builder c.in_ok-x.x.regs 0 g.row.N (0 + g.row.N + g.row.N + g.row.N + g.row.N) c.in_ok-x.ensures.emitted start scaled (omega arith))))))
+    (search rules, (omega (arith, c.requires.least), (scaled.order, (omega (arith, scaled.count, c.requires.most), lifted-below c.new-builder.result c.emit_lift.new.builder c.emit_scale_public.new.builder c.in_ok-x.x.regs 0 g.row.N (0 + g.row.N + g.row.N + g.row.N + g.row.N) c.in_ok-x.ensures.emitted start scaled (omega arith)))))

@@ -21,8 +21,8 @@ overflow_mul-number c =
     product-le _ c.args.shares 64 9 (omega (arith, below, c.requires.secrets)) (omega (arith, c.requires.shares.1)) in
     grind (arith, small)
 
-pub push_sum-requires-clause-right : goal.push_sum-requires-clause-right
-push_sum-requires-clause-right c =
+pub push_sum-place-requires-clause-right : goal.push_sum-place-requires-clause-right
+push_sum-place-requires-clause-right c =
     let number : ℕ = slice_index c.args.rest.now c.loop-block.block in
     let below : number < c.args.builder.now.secrets = AllBelow-at _ c.args.rest.now c.loop-block.block c.requires.rest c.loop-block-test.true in
     let len : draft_len c.loop-block.builder ≡ c.args.builder.now.secrets * c.args.shares + length c.loop-block.builder.instrs =
@@ -41,25 +41,25 @@ loop-block-preserved c =
     draft_len-from before c.args.builder.now _ c.loop-block.invariant.same c.requires.none.0 c.requires.inputs in
     let grown : length (before.instrs ++ sums n c.loop-block.sum.first (number * n)) ≡ length before.instrs + n =
     length-append before.instrs (sums n c.loop-block.sum.first (number * n)) ∙ ap (λ (k : ℕ). length before.instrs + k) (length-map-range_with_len _ 0 n) in
-    let pushed : c.push_sum.new.builder ≡ record before { instrs = before.instrs ++ sums n c.loop-block.sum.first (number * n); spare = before.spare - n } =
-    c.push_sum.ensures none none c.loop-block.sum.value (Secret number)
+    let pushed : c.push_sum-place.new.builder ≡ record before { instrs = before.instrs ++ sums n c.loop-block.sum.first (number * n); spare = before.spare - n } =
+    c.push_sum-place.ensures.placed none none c.loop-block.sum.value (Secret number)
     ∙ ap (λ (is : List Instr). record before { instrs = before.instrs ++ is; spare = before.spare - n })
     (placed-add-ranges n (draft_len before) none none c.loop-block.sum.value (Secret number) c.loop-block.sum.first (number * n)) in
-    let instrs : c.push_sum.new.builder.instrs ≡ before.instrs ++ sums n c.loop-block.sum.first (number * n) = ap (λ (d : Draft). d.instrs) pushed in
-    let spare : c.push_sum.new.builder.spare ≡ before.spare - n = ap (λ (d : Draft). d.spare) pushed in
-    let place : c.len-place.result ≡ draft_len before = c.len-place.ensures in
-    let longer : draft_len c.push_sum.new.builder ≡ draft_len before + n = omega (arith, ap draft_len pushed, grown) in
+    let instrs : c.push_sum-place.new.builder.instrs ≡ before.instrs ++ sums n c.loop-block.sum.first (number * n) = ap (λ (d : Draft). d.instrs) pushed in
+    let spare : c.push_sum-place.new.builder.spare ≡ before.spare - n = ap (λ (d : Draft). d.spare) pushed in
+    let place : c.push_sum-place.result ≡ draft_len before = c.push_sum-place.ensures.place in
+    let longer : draft_len c.push_sum-place.new.builder ≡ draft_len before + n = omega (arith, ap draft_len pushed, grown) in
     let made : c.push_block.new.self.blocks ≡ c.loop-block.cert.blocks ++ Add c.loop-block.sum.value (Secret number) ∷ [] =
     ap (λ (cert : Claimed). cert.blocks) c.in_ok-push_block.ensures.ok in
     let room : (length c.args.rest.now - c.loop-block.block) * n ≡ (length c.args.rest.now - (c.loop-block.block + 1)) * n + n =
     room-step (length c.args.rest.now) c.loop-block.block n c.loop-block-test.true in
-    let same : c.push_sum.new.builder ≡ record c.args.builder.now { instrs = c.push_sum.new.builder.instrs; spare = c.push_sum.new.builder.spare } =
+    let same : c.push_sum-place.new.builder ≡ record c.args.builder.now { instrs = c.push_sum-place.new.builder.instrs; spare = c.push_sum-place.new.builder.spare } =
     pushed
     ∙ ap (λ (d : Draft). record d { instrs = before.instrs ++ sums n c.loop-block.sum.first (number * n); spare = before.spare - n }) c.loop-block.invariant.same
     ∙ ap (λ (is : List Instr). record c.args.builder.now { instrs = is; spare = before.spare - n }) (sym instrs)
-    ∙ ap (λ (k : ℕ). record c.args.builder.now { instrs = c.push_sum.new.builder.instrs; spare = k }) (sym spare) in
+    ∙ ap (λ (k : ℕ). record c.args.builder.now { instrs = c.push_sum-place.new.builder.instrs; spare = k }) (sym spare) in
     let laying : Laying n c.args.first (c.args.builder.now.secrets * n) c.args.rest.now (c.loop-block.block + 1) (Block c.loop-block.block)
-    c.len-place.result (draft_len c.push_sum.new.builder) c.push_sum.new.builder.instrs c.push_block.new.self.blocks =
+    c.push_sum-place.result (draft_len c.push_sum-place.new.builder) c.push_sum-place.new.builder.instrs c.push_block.new.self.blocks =
     rw (place, longer, instrs, made)
     (Laying-more n c.args.first (c.args.builder.now.secrets * n) c.args.rest.now c.loop-block.block c.loop-block.sum.value c.loop-block.sum.first
     (draft_len before) before.instrs c.loop-block.cert.blocks number c.loop-block-test.true refl c.loop-block.invariant.laying) in

@@ -10,7 +10,7 @@ pub finish-code-requires : goal.finish-code-requires
 finish-code-requires g c =
     let none : Gadget = record { instrs = []; outs = [] } in
     let order : c.push_sum.new.builder.order ≡ 1 =
-    ap (λ (d : Draft). d.order) (c.push_sum.ensures none none (Secret 0) (Secret 1))
+    ap (λ (d : Draft). d.order) (c.push_sum.ensures.placed none none (Secret 0) (Secret 1))
     ∙ ap (λ (d : Draft). d.order) c.in_ok-reserve.ensures.same ∙ ap (λ (d : Draft). d.order) c.new-builder.ensures in
     let outs : c.new-2.result ≡ [] = c.new-2.ensures in
     rw outs (record {
