@@ -8,6 +8,7 @@ use Rattle.std.proofs.lemmas.List.FromFn.{length-range_with_len}
 use Rattle.std.proofs.lemmas.Nat.{mod-mul-add}
 use Rattle.std.proofs.Math.Nat.{mul-le-mul_right, mul-le-mul_left}
 use Rattle.std.proofs.Math.Seq.{take-length}
+use Rattle.mk_field.specs.declared.field.FieldId.{FieldId}
 use Rattle.mk_field.specs.declared.field.FieldId.TheVariants.{Gf256}
 use Rattle.mk_field.specs.declared.map.AddMap.{AddMap}
 use Rattle.mk_field.specs.Sharing.{field_sum, decoded}
@@ -84,7 +85,7 @@ module _ (order secrets first : ℕ) (rest : List ℕ)
   first-within = omega (arith, mul-le-mul_right (order + 1) first_below)
 
   -- the code fits together and is within the limits
-  pub sum-listing : IsListing (sum_code order secrets first rest)
+  pub sum-listing : IsListing (sum_code Gf256 order secrets first rest)
   sum-listing =
       let n : ℕ = order + 1 in
       let count : length (chain n (first * n) (secrets * n) rest) ≡ length rest * n = length-chain n (first * n) (secrets * n) rest in
@@ -105,9 +106,9 @@ module _ (order secrets first : ℕ) (rest : List ℕ)
       }
 
   -- the rule accepts the code with its certificate
-  pub sum-accepted : (product refresh : Gadget) → Accepts (sum_code order secrets first rest) product refresh (sum_cert first rest)
+  pub sum-accepted : (product refresh : Gadget) → Accepts (sum_code Gf256 order secrets first rest) product refresh (sum_cert first rest)
   sum-accepted product refresh =
-      let code : Listing = sum_code order secrets first rest in
+      let code : Listing = sum_code Gf256 order secrets first rest in
       let n : ℕ = order + 1 in
       let start : first_place code ≡ secrets * n = omega arith in
       let banked : Banked code (input_banks code) (Secret first) (first * n) 0 = input-banked code first refl first_below in
@@ -127,11 +128,11 @@ module _ (order secrets first : ℕ) (rest : List ℕ)
       }
 
   -- the code works share by share, so it is private
-  pub sum-private : Private (sum_code order secrets first rest)
+  pub sum-private : Private (sum_code Gf256 order secrets first rest)
   sum-private =
       let n : ℕ = order + 1 in
       let start : inputs_len order secrets 0 ≡ secrets * n = omega arith in
-      columns-private (sum_code order secrets first rest) (share_index n) (record {
+      columns-private (sum_code Gf256 order secrets first rest) (share_index n) (record {
         shares = λ i j below small. ap Some (mod-mul-add i n j (omega arith));
         publics = λ k below. absurd (omega (arith, below));
         instrs = subst (λ (k : ℕ). AllStayIn (share_index n) k (chain n (first * n) (secrets * n) rest)) (sym start)
@@ -140,7 +141,7 @@ module _ (order secrets first : ℕ) (rest : List ℕ)
 
   -- what the code gives on shares: the sum of the secrets, each the sum of its shares
   pub sum-values : (publics shares tape : List ℕ) → Elements (2 ^ 8) 0 publics → length shares ≡ secrets * (order + 1)
-      → decoded (order + 1) 1 (observation (sum_code order secrets first rest).outs (trace (sum_code order secrets first rest) publics shares tape))
+      → decoded (order + 1) 1 (observation (sum_code Gf256 order secrets first rest).outs (trace (sum_code Gf256 order secrets first rest) publics shares tape))
       ≡ field_sum (map (slice_index (decoded (order + 1) secrets shares)) (first ∷ rest)) ∷ []
   unfolding decoded field_sum AllBelow
   sum-values publics shares tape none count =
@@ -180,7 +181,7 @@ module _ (p : Program) (order first : ℕ) (rest : List ℕ) (ok : IsProgram p) 
       let count : length p.parts ≡ suc (length rest) = sym (length-map p.parts (number_of p)) ∙ ap length named in
       omega (arith, count, ok.few_parts)
 
-  pub program-compiled : IsCompiled p order (sum_code order (length p.secrets) first rest) (sum_cert first rest)
+  pub program-compiled : IsCompiled p order (sum_code Gf256 order (length p.secrets) first rest) (sum_cert first rest)
   program-compiled = record {
     field = refl;
     same_order = refl;
@@ -192,7 +193,7 @@ module _ (p : Program) (order first : ℕ) (rest : List ℕ) (ok : IsProgram p) 
     accepted = sum-accepted order (length p.secrets) first rest low high ok.few_secrets rest-few first-below rest-below;
   }
 
-  pub program-correct : Correct p order (sum_code order (length p.secrets) first rest)
+  pub program-correct : Correct p order (sum_code Gf256 order (length p.secrets) first rest)
   program-correct = record {
     field = refl;
     same_order = refl;
@@ -205,15 +206,15 @@ module _ (p : Program) (order first : ℕ) (rest : List ℕ) (ok : IsProgram p) 
         ∙ ap (λ (xs : List ℕ). field_sum xs ∷ []) (map-of-map (slice_index (decoded (order + 1) (length p.secrets) shares)) (number_of p) p.parts);
   }
 
-  pub program-private : Private (sum_code order (length p.secrets) first rest)
+  pub program-private : Private (sum_code Gf256 order (length p.secrets) first rest)
   program-private = sum-private order (length p.secrets) first rest low high ok.few_secrets rest-few first-below rest-below
 
 -- the finished code, by its parts
-pub finished-sum : (order secrets first : ℕ) (rest : List ℕ) (d : Draft) (outs : List ℕ) → d.order ≡ order → d.secrets ≡ secrets → d.publics ≡ 0 → d.maps ≡ []
+finished-sum : (field : FieldId) (order secrets first : ℕ) (rest : List ℕ) (d : Draft) (outs : List ℕ) → d.order ≡ order → d.secrets ≡ secrets → d.publics ≡ 0 → d.maps ≡ []
     → d.instrs ≡ chain (order + 1) (first * (order + 1)) (secrets * (order + 1)) rest
     → outs ≡ range_with_len (last (order + 1) (first * (order + 1)) (secrets * (order + 1)) rest) (order + 1)
-    → finished Gf256 d outs ≡ sum_code order secrets first rest
-finished-sum order secrets first rest d outs a b c e f g = rw (a, b, c, e, f, g) refl
+    → finished field d outs ≡ sum_code field order secrets first rest
+finished-sum field order secrets first rest d outs a b c e f g = rw (a, b, c, e, f, g) refl
 
 -- the last bank of a sum of few secrets at a small order is among the first places
 pub last-small : (order secrets first : ℕ) (rest : List ℕ) → order ≤ 8 → secrets ≤ 64 → length rest ≤ 63 → first < secrets
@@ -225,31 +226,32 @@ last-small order secrets first rest high few_secrets few below =
     let long : length rest * n ≤ 63 * 9 = omega (arith, mul-le-mul_right n few, mul-le-mul_left 63 high) in
     omega (arith, last-within n (first * n) (secrets * n) rest start, wide, long)
 
--- a code in the making, made new, given room, and with instructions laid in it
-pub draft-parts : (made reserved laid : Draft) (order secrets : ℕ) (maps : List AddMap)
+-- a code in the making, made new, and with instructions laid in it
+pub draft-parts : (made laid : Draft) (order secrets : ℕ) (maps : List AddMap)
     → made ≡ record { order = order; secrets = secrets; publics = 0; maps = maps; instrs = []; spare = made.spare }
-    → reserved ≡ record made { spare = reserved.spare }
-    → laid ≡ record reserved { instrs = laid.instrs; spare = laid.spare }
-    → (laid.order ≡ order) × (laid.secrets ≡ secrets) × (laid.publics ≡ 0) × (laid.maps ≡ maps) × (reserved.secrets ≡ secrets)
-draft-parts made reserved laid order secrets maps a b c = (
-  ap (λ (d : Draft). d.order) c ∙ ap (λ (d : Draft). d.order) b ∙ ap (λ (d : Draft). d.order) a,
-  ap (λ (d : Draft). d.secrets) c ∙ ap (λ (d : Draft). d.secrets) b ∙ ap (λ (d : Draft). d.secrets) a,
-  ap (λ (d : Draft). d.publics) c ∙ ap (λ (d : Draft). d.publics) b ∙ ap (λ (d : Draft). d.publics) a,
-  ap (λ (d : Draft). d.maps) c ∙ ap (λ (d : Draft). d.maps) b ∙ ap (λ (d : Draft). d.maps) a,
+    → laid ≡ record made { instrs = laid.instrs; spare = laid.spare }
+    → (laid.order ≡ order) × (laid.secrets ≡ secrets) × (laid.publics ≡ 0) × (laid.maps ≡ maps) × (made.secrets ≡ secrets)
+draft-parts made laid order secrets maps a b = (
+  ap (λ (d : Draft). d.order) b ∙ ap (λ (d : Draft). d.order) a,
   ap (λ (d : Draft). d.secrets) b ∙ ap (λ (d : Draft). d.secrets) a,
+  ap (λ (d : Draft). d.publics) b ∙ ap (λ (d : Draft). d.publics) a,
+  ap (λ (d : Draft). d.maps) b ∙ ap (λ (d : Draft). d.maps) a,
+  ap (λ (d : Draft). d.secrets) a,
 )
 
 -- what was laid, finished with the last bank as outs, is the code of the sum
-pub laid-finished : (order secrets first : ℕ) (rest : List ℕ) (n s : ℕ) (d : Draft) (outs : List ℕ) (value : Operand) (place : ℕ) (made : List Op)
-    → n ≡ order + 1 → s ≡ secrets → d.order ≡ order → d.secrets ≡ secrets → d.publics ≡ 0 → d.maps ≡ []
-    → Laid n first (s * n) rest value place d.instrs made → outs ≡ range_with_len place n
-    → finished Gf256 d outs ≡ sum_code order secrets first rest
-laid-finished order secrets first rest n s d outs value place made e f a b c g laid h =
+pub laid-finished : (field : FieldId) (order secrets first : ℕ) (rest : List ℕ) (n s : ℕ) (d : Draft) (outs bank : List ℕ) (value : Operand) (made : List Op)
+    → order + 1 ≡ n → s ≡ secrets → d.order ≡ order → d.secrets ≡ secrets → d.publics ≡ 0 → d.maps ≡ []
+    → Laid n first (s * n) rest value bank d.instrs made → outs ≡ bank
+    → finished field d outs ≡ sum_code field order secrets first rest
+laid-finished field order secrets first rest n s d outs bank value made e f a b c g laid h =
     let instrs : d.instrs ≡ chain (order + 1) (first * (order + 1)) (secrets * (order + 1)) rest =
-    laid.instrs ∙ ap (λ (k : ℕ). chain k (first * k) (s * k) rest) e ∙ ap (λ (k : ℕ). chain (order + 1) (first * (order + 1)) (k * (order + 1)) rest) f in
-    let at : place ≡ last (order + 1) (first * (order + 1)) (secrets * (order + 1)) rest =
-    laid.bank ∙ ap (λ (k : ℕ). last k (first * k) (s * k) rest) e ∙ ap (λ (k : ℕ). last (order + 1) (first * (order + 1)) (k * (order + 1)) rest) f in
-    finished-sum order secrets first rest d outs a b c g instrs (h ∙ ap (λ (k : ℕ). range_with_len place k) e ∙ ap (λ (p : ℕ). range_with_len p (order + 1)) at)
+    laid.instrs ∙ ap (λ (k : ℕ). chain k (first * k) (s * k) rest) (sym e) ∙ ap (λ (k : ℕ). chain (order + 1) (first * (order + 1)) (k * (order + 1)) rest) f in
+    let places : outs ≡ range_with_len (last (order + 1) (first * (order + 1)) (secrets * (order + 1)) rest) (order + 1) =
+    h ∙ laid.places
+    ∙ ap (λ (k : ℕ). range_with_len (last k (first * k) (s * k) rest) k) (sym e)
+    ∙ ap (λ (k : ℕ). range_with_len (last (order + 1) (first * (order + 1)) (k * (order + 1)) rest) (order + 1)) f in
+    finished-sum field order secrets first rest d outs a b c g instrs places
 
 -- as many blocks as numbers
 pub length-additions : (value : Operand) (k : ℕ) (cs : List ℕ) → length (additions value k cs) ≡ length cs

@@ -192,7 +192,7 @@ below-more p q (c ∷ rest) more below = (omega (arith, below.0), below-more p q
 module _ (order secrets first : ℕ) (rest : List ℕ)
     (low : 1 ≤ order) (high : order ≤ 8) (few_secrets : secrets ≤ 64) (few : length rest ≤ 63)
     (first_below : first < secrets) (rest_below : AllBelow secrets rest) where
-  sum-pair : IsPair (sum_code order secrets first rest) (sum_cert first rest)
+  sum-pair : IsPair (sum_code Gf256 order secrets first rest) (sum_cert first rest)
   sum-pair = record {
     listing = sum-listing order secrets first rest low high few_secrets few first_below rest_below;
     maps = tt;
@@ -202,9 +202,9 @@ module _ (order secrets first : ℕ) (rest : List ℕ)
     few_claims = omega arith;
   }
 
-  sum-short : IsShort (sum_code order secrets first rest) (sum_cert first rest)
+  sum-short : IsShort (sum_code Gf256 order secrets first rest) (sum_cert first rest)
   sum-short =
-      let code : Listing = sum_code order secrets first rest in
+      let code : Listing = sum_code Gf256 order secrets first rest in
       let cert : Claimed = sum_cert first rest in
       let n : ℕ = order + 1 in
       let head : List ℕ = head_lines code in
@@ -252,10 +252,10 @@ module _ (order secrets first : ℕ) (rest : List ℕ)
       )
 
 module _ (p : Program) (order first : ℕ) (rest : List ℕ) (ok : IsProgram p) (low : 1 ≤ order) (high : order ≤ 8) (named : numbers_of p ≡ first ∷ rest) where
-  pub program-pair : IsPair (sum_code order (length p.secrets) first rest) (sum_cert first rest)
+  pub program-pair : IsPair (sum_code Gf256 order (length p.secrets) first rest) (sum_cert first rest)
   program-pair = sum-pair order (length p.secrets) first rest low high ok.few_secrets (rest-few p order first rest ok low high named)
       (first-below p order first rest ok low high named) (rest-below p order first rest ok low high named)
 
-  pub program-short : IsShort (sum_code order (length p.secrets) first rest) (sum_cert first rest)
+  pub program-short : IsShort (sum_code Gf256 order (length p.secrets) first rest) (sum_cert first rest)
   program-short = sum-short order (length p.secrets) first rest low high ok.few_secrets (rest-few p order first rest ok low high named)
       (first-below p order first rest ok low high named) (rest-below p order first rest ok low high named)

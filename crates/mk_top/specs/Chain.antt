@@ -1,7 +1,7 @@
 -- A sum from the left, as blocks.
 use Rattle.std.specs.Prelude.{◌≡◌, ℕ, ◌+◌, ◌*◌, List, [], ◌∷◌, ◌++◌, map}
 use Rattle.std.specs.List.{range_with_len}
-use Rattle.mk_field.specs.declared.field.FieldId.TheVariants.{Gf256}
+use Rattle.mk_field.specs.declared.field.FieldId.{FieldId}
 use Rattle.mk_code.specs.declared.instr.Instr.{Instr}
 use Rattle.mk_code.specs.declared.instr.Instr.TheVariants as instr
 use Rattle.mk_code.specs.Listing.{Listing}
@@ -47,18 +47,18 @@ last n left base [] = left
 last n left base (c ∷ rest) = last n base (base + n) rest
 
 -- all numbers were added: the instructions, the blocks, the value of the whole and where its shares are
-pub record Laid (n first base : ℕ) (rest : List ℕ) (value : Operand) (place : ℕ) (laid : List Instr) (made : List Op) : Type 0 where
+pub record Laid (n first base : ℕ) (rest : List ℕ) (value : Operand) (bank : List ℕ) (laid : List Instr) (made : List Op) : Type 0 where
   pub instrs : laid ≡ chain n (first * n) base rest
   pub blocks : made ≡ additions (Secret first) 0 rest
   pub whole_value : value ≡ whole (Secret first) 0 rest
-  pub bank : place ≡ last n (first * n) base rest
+  pub places : bank ≡ range_with_len (last n (first * n) base rest) n
 
 -- the code of the sum of the secrets `first` and `rest`
-abbrev pub sum_code : ℕ → ℕ → ℕ → List ℕ → Listing
-sum_code order secrets first rest =
+abbrev pub sum_code : FieldId → ℕ → ℕ → ℕ → List ℕ → Listing
+sum_code field order secrets first rest =
     let n = order + 1 in
     record {
-      field = Gf256;
+      field = field;
       order = order;
       secrets = secrets;
       publics = 0;

@@ -15,18 +15,19 @@ ghost use Rattle.mk_top.specs.Correct.{Correct, number_of};
 
 use crate::first::Program;
 use mk_base::{Items, Memory};
-use mk_code::{CodeBuilder, PositionList};
-use mk_field::Gf256;
-use mk_gadget::push_sum;
+use mk_code::CodeBuilder;
+use mk_field::{Field, FieldId, Gf256};
+use mk_gadget::emit_add;
 use mk_rules::{Bundle, Cert};
+use mk_share::{Bank, with_order};
 use mk_ssa::{Op, Operand};
 use std::alloc::Global;
 
-/// A shared value: its operand, and the place of its first share. The others follow.
+/// A shared value: its operand, and the places of its shares.
 #[derive(Clone, Copy)]
-struct Shared {
+struct Shared<const N: usize> {
     value: Operand,
-    first: u32,
+    bank: Bank<N>,
 }
 
 /// The number of the secret of this name, or how many there are where none has it.
@@ -54,59 +55,87 @@ fn part_numbers(alloc: Global, program: &Program) -> Result<Vec<u32>, Memory>
     Ok(numbers)
 }
 
-/// The places of a shared value's shares.
-fn bank(alloc: Global, first: u32, shares: u32) -> Result<PositionList, Memory>
-    requires { first + shares < 2 ^ 32 }
-    ensures { IfOk result (λ places. places ≡ range_with_len first shares) }
+/// The bank of the secret of this number: the shares of the secrets stand in order before all else.
+fn secret_bank<const N: usize>(number: u32) -> Bank<N>
+    requires number { number < 64 }
+    requires shares { N ≤ 9 }
+    ensures { result.regs ≡ range_with_len (number * N) N }
 {
-    let mut places = Items::new(alloc);
-    for share in 0..shares {
-        places.push(first + share)?;
+    let first = number * N as u32;
+    let mut regs = [first; N];
+    for share in 0..N {
+        regs[share] = first + share as u32;
     }
-    Ok(places)
+    Bank { regs }
 }
 
 /// Appends the blocks and the instructions of the sum of the secrets `first` and `rest`, and answers
-/// the whole sum. Room for the instructions was reserved.
-fn lay_sum(
-    builder: &mut CodeBuilder<Gf256>,
+/// the whole sum.
+fn lay_sum<F: Field, const N: usize>(
+    builder: &mut CodeBuilder<F>,
     cert: &mut Cert,
-    shares: u32,
     first: u32,
     rest: &[u32],
-) -> Result<Shared, Memory>
-    requires shares { (builder.old.order + 1 ≡ shares) × (shares ≤ 9) }
+) -> Result<Shared<N>, Memory>
+    requires shares { (2 ≤ N) × (N ≤ 9) }
+    requires order { builder.old.order + 1 ≡ N }
     requires secrets { builder.old.secrets ≤ 64 }
-    requires inputs { draft_len builder.old ≡ builder.old.secrets * shares }
+    requires inputs { draft_len builder.old ≡ builder.old.secrets * N }
     requires none { (builder.old.instrs ≡ []) × (cert.old.blocks ≡ []) }
     requires first { first < builder.old.secrets }
     requires rest { AllBelow builder.old.secrets rest.now }
     requires few { length rest.now ≤ 63 }
-    requires room { length rest.now * shares ≤ builder.old.spare }
-    ensures laid { IfOk result (λ sum. Laid shares first (builder.old.secrets * shares) rest.now sum.value sum.first builder.new.instrs cert.new.blocks) }
+    ensures laid { IfOk result (λ sum. Laid N first (builder.old.secrets * N) rest.now sum.value sum.bank.regs builder.new.instrs cert.new.blocks) }
     ensures builder { builder.new ≡ record builder.old { instrs = builder.new.instrs; spare = builder.new.spare } }
     ensures claims { cert.new.claims ≡ cert.old.claims }
 {
     let mut sum = Shared {
         value: Operand::Secret(first),
-        first: first * shares,
+        bank: secret_bank::<N>(first),
     };
     for (block, number) in rest.iter().enumerate() {
         cert.push_block(Op::Add {
             left: sum.value,
             right: Operand::Secret(*number),
         })?;
-        let place = push_sum(builder, shares, sum.first, *number * shares);
+        let bank = emit_add::<F, N>(builder, &sum.bank, &secret_bank::<N>(*number))?;
         sum = Shared {
             value: Operand::Block(block as u32),
-            first: place,
+            bank,
         };
     }
     Ok(sum)
 }
 
+/// The code and certificate of the sum of the secrets `first` and `rest`, among `secrets` of them, with
+/// `N` shares.
+fn sum_bundle<F: Field, const N: usize>(
+    alloc: Global,
+    order: u8,
+    secrets: u32,
+    first: u32,
+    rest: &[u32],
+) -> Result<Bundle, Memory>
+    requires order { (1 ≤ order) × (order ≤ 8) }
+    requires shares { order + 1 ≡ N }
+    requires secrets { secrets ≤ 64 }
+    requires first { first < secrets }
+    requires rest { AllBelow secrets rest.now }
+    requires few { length rest.now ≤ 63 }
+    ensures code { IfOk result (λ bundle. bundle.code ≡ sum_code F.ID order secrets first rest.now) }
+    ensures cert { IfOk result (λ bundle. bundle.cert ≡ sum_cert first rest.now) }
+{
+    let mut builder = CodeBuilder::<F>::new(alloc, order, secrets, 0, Items::new(alloc));
+    let mut cert = Cert::new(alloc);
+    let sum = lay_sum::<F, N>(&mut builder, &mut cert, first, rest)?;
+    cert.push_claim(sum.value)?;
+    let outs = Vec::from_slice(alloc, &sum.bank.regs)?;
+    let code = builder.finish(Items::from_vec(outs));
+    Ok(Bundle { code, cert })
+}
+
 /// The code and certificate of the sum of the secrets `first` and `rest`, among `secrets` of them.
-fn sum_bundle(
+fn sum_bundle_at(
     alloc: Global,
     order: u8,
     secrets: u32,
@@ -118,18 +147,13 @@ fn sum_bundle(
     requires first { first < secrets }
     requires rest { AllBelow secrets rest.now }
     requires few { length rest.now ≤ 63 }
-    ensures code { IfOk result (λ bundle. bundle.code ≡ sum_code order secrets first rest.now) }
+    ensures code { IfOk result (λ bundle. bundle.code ≡ sum_code FieldId.Gf256 order secrets first rest.now) }
     ensures cert { IfOk result (λ bundle. bundle.cert ≡ sum_cert first rest.now) }
 {
-    let shares = u32::from(order) + 1;
-    let mut builder = CodeBuilder::<Gf256>::new(alloc, order, secrets, 0, Items::new(alloc));
-    let mut cert = Cert::new(alloc);
-    builder.reserve(rest.len() as u32 * shares)?;
-    let sum = lay_sum(&mut builder, &mut cert, shares, first, rest)?;
-    cert.push_claim(sum.value)?;
-    let outs = bank(alloc, sum.first, shares)?;
-    let code = builder.finish(outs);
-    Ok(Bundle { code, cert })
+    with_order!(
+        order,
+        sum_bundle::<Gf256>(alloc, order, secrets, first, rest)
+    )
 }
 
 /// The code and certificate of a program at an order: what it computes on shares, privately.
@@ -146,5 +170,5 @@ pub(crate) fn compile(alloc: Global, program: &Program, order: u8) -> Result<Bun
     let numbers = part_numbers(alloc, program)?;
     let secrets = program.secrets.len() as u32;
     let (first, rest) = numbers.as_slice().split_first().unwrap();
-    sum_bundle(alloc, order, secrets, *first, rest)
+    sum_bundle_at(alloc, order, secrets, *first, rest)
 }
