@@ -12,7 +12,7 @@ use Rattle.mk_gadget.specs.Emitted.{Emitted}
 use Rattle.mk_gadget.proofs.Rows.{FitsAt-later}
 
 -- one more number
-range-more : (a n : ℕ) → range_with_len a (n + 1) ≡ range_with_len a n ++ (a + n) ∷ []
+pub range-more : (a n : ℕ) → range_with_len a (n + 1) ≡ range_with_len a n ++ (a + n) ∷ []
 range-more a zero = let e : a ≡ a + 0 = omega arith in ap (λ (k : ℕ). k ∷ []) e
 range-more a (suc n) =
     let e : a + 1 + n ≡ a + suc n = omega arith in
