@@ -1,5 +1,5 @@
 -- The template of a sum, placed in a code: its instructions, its out bank, and that it adds sharings.
-use Rattle.std.proofs.Common.{◌≡◌, ℕ, zero, suc, ◌+◌, ◌-◌, ◌*◌, ◌<◌, ◌≤◌, List, [], ◌∷◌, ◌++◌, length, map, slice_index, bit_xor, refl, sym, ◌∙◌, ap, subst, arith, append_assoc}
+use Rattle.std.proofs.Common.{◌≡◌, ℕ, zero, suc, ◌+◌, ◌-◌, ◌*◌, ◌<◌, ◌≤◌, List, [], ◌∷◌, ◌++◌, length, map, slice_index, bit_xor, refl, sym, ◌∙◌, ap, arith, append_assoc}
 use Rattle.std.specs.List.{range_with_len}
 use Rattle.std.proofs.lemmas.List.{length-append, append-nil, get_or_append_left, get_or-append-add}
 use Rattle.std.proofs.lemmas.List.FromFn.{length-range_with_len, length-map-range_with_len, get_or-range_with_len}
@@ -222,16 +222,3 @@ run-add field maps tape entries n base product refresh left right xs ys first se
             ∙ ap (λ (s : List ℕ). bit_xor (field_sum (observation xs entries)) (field_sum s)) (sym (observed-by_index entries ys n second));
       };
     }
-
--- so its out bank is a sharing of the sum
-pub add-shares : (field : FieldId) (maps : List AddMap) (tape entries : List ℕ) (n : ℕ) (product refresh : Gadget) (left right : Operand) (xs ys : List ℕ)
-    → length xs ≡ n → length ys ≡ n → AllBelow (length entries) xs → AllBelow (length entries) ys
-    → IsSharing n (bit_xor (field_sum (observation xs entries)) (field_sum (observation ys entries)))
-    (observation (placed_outs (xs ++ ys) (length entries) (template n product refresh (op.Add left right)))
-    (run field maps (placed (xs ++ ys) (length entries) (template n product refresh (op.Add left right))) tape entries))
-add-shares field maps tape entries n product refresh left right xs ys first second here there =
-    let after : List ℕ = run field maps (placed (xs ++ ys) (length entries) (template n product refresh (op.Add left right))) tape entries in
-    let adds : AddsSharings n xs ys entries after = run-add field maps tape entries n (length entries) product refresh left right xs ys first second here there in
-    let seen : observation (placed_outs (xs ++ ys) (length entries) (template n product refresh (op.Add left right))) after ≡ adds.more =
-    ap (λ (places : List ℕ). observation places after) (placed_outs-add n (length entries) product refresh left right xs ys first second) ∙ adds.seen in
-    subst (IsSharing n (bit_xor (field_sum (observation xs entries)) (field_sum (observation ys entries)))) (sym seen) adds.sharing
