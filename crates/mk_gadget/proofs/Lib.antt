@@ -3,3 +3,4 @@ pub mod Rows
 pub mod Emitting
 pub mod Values
 pub mod Lifted
+pub mod Steady

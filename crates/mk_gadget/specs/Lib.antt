@@ -1,3 +1,4 @@
 pub mod Gadget
 pub mod Template
 pub mod Emitted
+pub mod Steady
