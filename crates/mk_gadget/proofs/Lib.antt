@@ -4,3 +4,4 @@ pub mod Emitting
 pub mod Values
 pub mod Lifted
 pub mod Steady
+pub mod Examples

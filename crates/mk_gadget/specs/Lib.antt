@@ -2,3 +2,4 @@ pub mod Gadget
 pub mod Template
 pub mod Emitted
 pub mod Steady
+pub mod Examples
