@@ -3,9 +3,11 @@
 #![tactic(auto)]
 
 mod emit;
+mod laws;
 mod linear;
 #[cfg(test)]
 mod linear_tests;
 
 pub use emit::push_sum;
+pub use laws::placed_law;
 pub use linear::{emit_add, emit_add_public, emit_lift, emit_map, emit_scale_public, emit_sq};
