@@ -12,8 +12,9 @@ use Rattle.mk_code.specs.Trace.{run, randoms, takes, entry, image_by}
 use Rattle.mk_code.specs.Counting.{AllBelow}
 use Rattle.mk_code.specs.Private.{observation}
 use Rattle.mk_code.proofs.Runs.{length-run}
-use Rattle.mk_gadget.specs.Gadget.{Gadget, placement, moved, placed}
-use Rattle.mk_gadget.specs.PlacedLaw.{PlacedLaw}
+use Rattle.mk_gadget.specs.Gadget.{Gadget, placement, moved, placed, placed_outs}
+use Rattle.mk_gadget.specs.Steady.{block_view}
+use Rattle.mk_gadget.specs.PlacedLaw.{placed_view, PlacedLaw}
 use Rattle.mk_gadget.proofs.AddTemplate.{AllBelow-at, placement-own}
 
 -- a moved instruction takes as many random elements
@@ -138,10 +139,53 @@ placed-entry field maps gadget count place reads tape entries below fit inside =
     (subst (λ (n : ℕ). AllFit field count n gadget.instrs) (sym same) fit) (Follows-start reads entries) in
     so.at place (omega (arith, inside, same, length-run field maps gadget.instrs tape state))
 
+-- what is seen of probed instructions
+probes-placed : (reads : List ℕ) (base len : ℕ) (after alone probes : List ℕ) → AllBelow len probes
+    → ((place : ℕ) → place < length reads + len → slice_index after (placement reads base place) ≡ slice_index alone place)
+    → observation (map (λ k. base + k) probes) after ≡ observation (map (λ k. length reads + k) probes) alone
+unfolding AllBelow
+probes-placed reads base len after alone [] below at = refl
+probes-placed reads base len after alone (k ∷ ks) below at =
+    let place : placement reads base (length reads + k) ≡ base + k =
+    placement-own reads base (length reads + k) (omega arith) ∙ ap (λ (n : ℕ). base + n) (omega arith) in
+    let here : slice_index after (base + k) ≡ slice_index alone (length reads + k) =
+    ap (slice_index after) (sym place) ∙ at (length reads + k) (omega (arith, below.0)) in
+    let rest : observation (map (λ k. base + k) ks) after ≡ observation (map (λ k. length reads + k) ks) alone =
+    probes-placed reads base len after alone ks below.1 at in
+    cc
+
+-- what is seen of the out bank
+outs-placed : (to : ℕ → ℕ) (len : ℕ) (after alone places : List ℕ) → AllBelow len places
+    → ((place : ℕ) → place < len → slice_index after (to place) ≡ slice_index alone place)
+    → observation (map to places) after ≡ observation places alone
+unfolding AllBelow
+outs-placed to len after alone [] below at = refl
+outs-placed to len after alone (p ∷ ps) below at =
+    let here : slice_index after (to p) ≡ slice_index alone p = at p below.0 in
+    let rest : observation (map to ps) after ≡ observation ps alone = outs-placed to len after alone ps below.1 at in
+    cc
+
+-- an observer sees of a placed gadget what is seen of it alone
+placed-seen : (field : FieldId) (maps : List AddMap) (gadget : Gadget) (count : ℕ) (reads tape entries probes outs : List ℕ)
+    → AllBelow (length entries) reads → AllFit field count (length reads) gadget.instrs
+    → AllBelow (length gadget.instrs) probes → AllBelow (length reads + length gadget.instrs) gadget.outs
+    → placed_view reads (length entries) gadget probes outs (run field maps (placed reads (length entries) gadget) tape entries)
+    ≡ block_view (length reads) gadget probes outs (run field maps gadget.instrs tape (observation reads entries))
+placed-seen field maps gadget count reads tape entries probes outs below fit within bank =
+    let after : List ℕ = run field maps (placed reads (length entries) gadget) tape entries in
+    let alone : List ℕ = run field maps gadget.instrs tape (observation reads entries) in
+    let at : (place : ℕ) → place < length reads + length gadget.instrs → slice_index after (placement reads (length entries) place) ≡ slice_index alone place =
+    λ place inside. placed-entry field maps gadget count place reads tape entries below fit inside in
+    ap (λ (seen : List ℕ). seen ++ observation outs (observation (placed_outs reads (length entries) gadget) after))
+    (probes-placed reads (length entries) (length gadget.instrs) after alone probes within at)
+    ∙ ap (λ (shares : List ℕ). observation (map (λ k. length reads + k) probes) alone ++ observation outs shares)
+    (outs-placed (placement reads (length entries)) (length reads + length gadget.instrs) after alone gadget.outs bank at)
+
 -- the law holds
 pub PlacedLaw-holds : (field : FieldId) (maps : List AddMap) → PlacedLaw field maps
 PlacedLaw-holds field maps = record {
   entry = placed-entry field maps;
+  view = placed-seen field maps;
   count = λ gadget reads base. length-map gadget.instrs (moved (placement reads base));
   random = λ gadget reads base. randoms-moved (placement reads base) gadget.instrs;
 }
