@@ -6,3 +6,4 @@ pub mod Lifted
 pub mod Placed
 pub mod Steady
 pub mod Examples
+pub mod BitProduct

@@ -169,10 +169,11 @@ unshared-steady field maps n p gadget probes within = (
       ap (λ (xs : List ℕ). block_ways field maps gadget (xs ++ publics) probes outs seen) equal,
 )
 
--- share i of the first operand, and of the second
+-- share i of the first operand
 first-own : (n m i : ℕ) → 0 < m → IsOfShare n m i i
 first-own n m i some = inl (0, some, omega arith)
 
+-- share i of the second
 second-own : (n m i : ℕ) → 1 < m → IsOfShare n m i (n + i)
 second-own n m i two = inl (1, two, omega arith)
 
