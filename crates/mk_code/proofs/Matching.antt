@@ -1,8 +1,8 @@
 -- Two totals are equal where each observation is made equally often and equal observations go with equal
 -- numbers.
-use Rattle.std.proofs.Common.{◌≡◌, ◌≢◌, ◌⊎◌, ℕ, zero, suc, ◌+◌, ◌<◌, List, [], ◌∷◌, ◌++◌, map, refl, sym, ◌∙◌, ap, subst, arith, inl, inr, nat_eq, if◌then◌else◌, eq-eqb, ne_eqb}
+use Rattle.std.proofs.Common.{◌≡◌, ◌⊎◌, ℕ, zero, suc, ◌+◌, ◌<◌, List, [], ◌∷◌, ◌++◌, map, refl, sym, ◌∙◌, ap, subst, arith, inl, inr, nat_eq, eq-eqb, ne_eqb}
 use Rattle.std.proofs.lemmas.Bool.{cases_eq, cond-true, cond-false}
-use Rattle.mk_code.specs.Counting.{sum_below, total, one_if_equal, AllBelow, Elements}
+use Rattle.mk_code.specs.Counting.{sum_below, total, one_if_equal, Elements}
 use Rattle.mk_code.proofs.Sums.{sum_below-same}
 use Rattle.mk_code.proofs.Totals.{Elements-cons, Elements-nil}
 

@@ -1,8 +1,8 @@
 -- An element of the tape that hides a value which doesn't depend on it.
-use Rattle.std.proofs.Common.{◌≡◌, ◌≢◌, ℕ, zero, suc, ◌+◌, ◌*◌, ◌^◌, ◌<◌, List, [], ◌∷◌, slice_index, nat_eq, if◌then◌else◌, bit_xor, refl, sym, ◌∙◌, ap, arith, zero-mul, suc-mul}
+use Rattle.std.proofs.Common.{◌≡◌, ◌≢◌, ℕ, zero, suc, ◌+◌, ◌*◌, ◌^◌, ◌<◌, List, ◌∷◌, slice_index, nat_eq, if◌then◌else◌, bit_xor, refl, sym, ◌∙◌, ap, arith, zero-mul, suc-mul}
 use Rattle.std.proofs.Math.Nat.{mul-add}
 use Rattle.std.proofs.lemmas.Nat.{pow_pos}
-use Rattle.mk_code.specs.Counting.{sum_below, total, one_if_equal, AllBelow, Elements}
+use Rattle.mk_code.specs.Counting.{sum_below, total, one_if_equal, Elements}
 use Rattle.mk_code.specs.CountingLaws.{Overlooks}
 use Rattle.mk_code.proofs.Sums.{sum_below-same, sum_below-single, sum_below-moved}
 use Rattle.mk_code.proofs.Totals.{Elements-cons, total-same, total-sum_below}
