@@ -7,10 +7,11 @@ use Rattle.mk_code.specs.Counting.{total, one_if_equal, AllBelow, Elements}
 pub record Overlooks {A : Type 0} (q n j : ℕ) (f : List ℕ → A) : Type 0 where
   pub same : (s t : List ℕ) → Elements q n s → Elements q n t → ((i : ℕ) → i ≢ j → slice_index s i ≡ slice_index t i) → f s ≡ f t
 
--- how totals over the lists of n numbers below q are counted. `matched` regroups by what is observed: where
--- each observation is made by equally many lists, and equal observations go with equal numbers, the totals
--- are equal. `renamed`: an element that is hidden by a value that doesn't depend on it may stand alone.
--- `taken_out`: an entry that is hidden so is each element for one in 2 ^ k of the lists
+-- how totals over the lists of n numbers below q are counted. `matched`: where each observation is made by
+-- equally many lists under u and under v, and equal observations go with equal numbers, the totals are equal.
+-- `renamed`: where a value that doesn't depend on an element is added to it, the element alone gives the same
+-- total. `taken_out`: such a sum, seen beside entries that don't depend on the element either, is each number
+-- below 2 ^ k for one in 2 ^ k of the lists that show these entries
 pub record CountingLaws : Type 0 where
   pub same : (q n : ℕ) (g h : List ℕ → ℕ) → ((s : List ℕ) → Elements q n s → g s ≡ h s) → total q n g ≡ total q n h
   pub of_sum : (q n : ℕ) (g h : List ℕ → ℕ) → total q n (λ s. g s + h s) ≡ total q n g + total q n h

@@ -1,7 +1,6 @@
 -- The product of two bits with two shares of each is strong: each position shows a product of one share of
 -- each operand, or is hidden by the random element.
 use Rattle.std.proofs.Common.{arith, ◌≡◌, ℕ, zero, suc, ◌+◌, ◌*◌, ◌<◌, ◌≤◌, List, [], ◌∷◌, ◌++◌, length, slice_index, bit_and, bit_xor, refl, sym, ◌∙◌, ap}
-use Rattle.std.specs.List.{Contains}
 use Rattle.std.specs.Int.Bits.{and_lt}
 use Rattle.mk_field.specs.declared.field.FieldId.TheVariants.{Gf2}
 use Rattle.mk_field.proofs.Sum.{sum-assoc, sum-comm, sum-below}

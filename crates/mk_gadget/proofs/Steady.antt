@@ -1,5 +1,5 @@
 -- Gadgets that work share by share are steady, and so are gadgets without shared operands.
-use Rattle.std.proofs.Common.{arith, ◌≡◌, ◌⊎◌, ℕ, zero, suc, ◌+◌, ◌*◌, ◌<◌, ◌≤◌, List, [], ◌∷◌, ◌++◌, length, map, nat_eq, if◌then◌else◌, slice_index, inl, inr, refl, sym, ◌∙◌, ap, subst}
+use Rattle.std.proofs.Common.{arith, ◌≡◌, ◌≢◌, ◌⊎◌, ℕ, zero, suc, ◌+◌, ◌*◌, ◌<◌, ◌≤◌, List, [], ◌∷◌, ◌++◌, length, map, nat_eq, if◌then◌else◌, slice_index, inl, inr, refl, sym, ◌∙◌, ap, subst}
 use Rattle.std.specs.List.{range_with_len, Contains}
 use Rattle.std.proofs.lemmas.List.{length-append, get_or_append_left, get_or-append_right, get_or-append-add}
 use Rattle.std.proofs.lemmas.List.Elements.{Contains-append_left, Contains-append_right}
@@ -16,8 +16,11 @@ use Rattle.mk_code.specs.Trace.{run, randoms, takes, entry, image_by}
 use Rattle.mk_code.specs.Counting.{one_if_equal, AllBelow}
 use Rattle.mk_code.specs.Private.{observation}
 use Rattle.mk_code.proofs.Totals.{total-same}
+use Rattle.mk_ssa.specs.declared.Op.{Op}
+use Rattle.mk_ssa.specs.declared.Op.TheVariants as op
+use Rattle.mk_ssa.specs.Kinds.{Strong, kind, shared_operands, public_operands}
 use Rattle.mk_gadget.specs.Gadget.{Gadget}
-use Rattle.mk_gadget.specs.Template.{rows, addition, public_addition, scaling, squaring, mapping}
+use Rattle.mk_gadget.specs.Template.{single, rows, lift, addition, public_addition, scaling, squaring, mapping, template}
 use Rattle.mk_gadget.specs.Steady.{block_view, block_ways, IsSteady}
 use Rattle.mk_gadget.proofs.AddTemplate.{observed-behind}
 use Rattle.mk_gadget.proofs.Rows.{Still, run-rows}
@@ -219,3 +222,20 @@ mapping-steady field maps n map =
     rows-steady field maps (suc map) n 1 0 n (λ i. Map map i) (omega arith)
     (λ i low high. ((omega arith, omega (arith, high)), refl))
     (λ i below. first-own n 1 i (omega arith))
+
+-- the template of an operator that isn't strong is steady
+pub template-steady : (field : FieldId) (maps : List AddMap) (n : ℕ) (product refresh : Gadget) (op : Op) → kind op ≢ Strong
+    → IsSteady field maps n (length (shared_operands op)) (length (public_operands op)) (template n product refresh op)
+template-steady field maps n product refresh (op.Const value) weak = unshared-steady field maps n 0 (single 0 (Const value))
+template-steady field maps n product refresh (op.PubAdd left right) weak = unshared-steady field maps n 2 (single 2 (Add 0 1))
+template-steady field maps n product refresh (op.PubMul left right) weak = unshared-steady field maps n 2 (single 2 (Mul 0 1))
+template-steady field maps n product refresh (op.PubSq arg) weak = unshared-steady field maps n 1 (single 1 (Sq 0))
+template-steady field maps n product refresh (op.PubMap map arg) weak = unshared-steady field maps n 1 (single 1 (Map map 0))
+template-steady field maps n product refresh (op.Lift arg) weak = unshared-steady field maps n 1 (lift n)
+template-steady field maps n product refresh (op.Add left right) weak = addition-steady field maps n
+template-steady field maps n product refresh (op.AddPub left right) weak = public_addition-steady field maps n
+template-steady field maps n product refresh (op.Scale left right) weak = scaling-steady field maps n
+template-steady field maps n product refresh (op.Sq arg) weak = squaring-steady field maps n
+template-steady field maps n product refresh (op.Map map arg) weak = mapping-steady field maps n map
+template-steady field maps n product refresh (op.Mul left right) weak = absurd (weak refl)
+template-steady field maps n product refresh (op.Refresh arg) weak = absurd (weak refl)

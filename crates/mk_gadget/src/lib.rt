@@ -9,5 +9,5 @@ mod linear;
 mod linear_tests;
 
 pub use emit::push_sum;
-pub use laws::placed_law;
+pub use laws::{placed_law, steady_law};
 pub use linear::{emit_add, emit_add_public, emit_lift, emit_map, emit_scale_public, emit_sq};
