@@ -4,16 +4,17 @@ use Rattle.std.proofs.lemmas.Bool.{cases_lt, lt-ltb}
 use Rattle.std.proofs.lemmas.List.{length-append, length-map, get_or_append_left, get_or_push}
 use Rattle.mk_field.specs.declared.field.FieldId.{FieldId}
 use Rattle.mk_field.specs.declared.map.AddMap.{AddMap}
-use Rattle.mk_field.specs.Field.{product, square}
+use Rattle.mk_field.specs.Field.{size, product, square}
 use Rattle.mk_code.specs.declared.instr.Instr.{Instr}
 use Rattle.mk_code.specs.declared.instr.Instr.TheVariants.{Rnd, Const, Copy, Add, Mul, Sq, Map}
 use Rattle.mk_code.specs.Listing.{FitsAt, AllFit}
 use Rattle.mk_code.specs.Trace.{run, randoms, takes, entry, image_by}
-use Rattle.mk_code.specs.Counting.{AllBelow}
+use Rattle.mk_code.specs.Counting.{total, one_if_equal, AllBelow}
 use Rattle.mk_code.specs.Private.{observation}
+use Rattle.mk_code.proofs.Totals.{total-same}
 use Rattle.mk_code.proofs.Runs.{length-run}
 use Rattle.mk_gadget.specs.Gadget.{Gadget, placement, moved, placed, placed_outs}
-use Rattle.mk_gadget.specs.Steady.{block_view}
+use Rattle.mk_gadget.specs.Steady.{block_view, block_ways}
 use Rattle.mk_gadget.specs.PlacedLaw.{placed_view, PlacedLaw}
 use Rattle.mk_gadget.proofs.AddTemplate.{AllBelow-at, placement-own}
 
@@ -181,11 +182,29 @@ placed-seen field maps gadget count reads tape entries probes outs below fit wit
     ∙ ap (λ (shares : List ℕ). observation (map (λ k. length reads + k) probes) alone ++ observation outs shares)
     (outs-placed (placement reads (length entries)) (length reads + length gadget.instrs) after alone gadget.outs bank at)
 
+-- in as many ways
+placed-ways : (field : FieldId) (maps : List AddMap) (gadget : Gadget) (count : ℕ) (reads entries probes outs seen : List ℕ)
+    → AllBelow (length entries) reads → AllFit field count (length reads) gadget.instrs
+    → AllBelow (length gadget.instrs) probes → AllBelow (length reads + length gadget.instrs) gadget.outs
+    → total (size field) (randoms (placed reads (length entries) gadget))
+    (λ tape. one_if_equal (placed_view reads (length entries) gadget probes outs (run field maps (placed reads (length entries) gadget) tape entries)) seen)
+    ≡ block_ways field maps gadget (observation reads entries) probes outs seen
+placed-ways field maps gadget count reads entries probes outs seen below fit within bank =
+    let state : List ℕ = observation reads entries in
+    let alone : List ℕ → ℕ → List ℕ = λ tape base. block_view base gadget probes outs (run field maps gadget.instrs tape state) in
+    let shown : List ℕ → ℕ =
+    λ tape. one_if_equal (placed_view reads (length entries) gadget probes outs (run field maps (placed reads (length entries) gadget) tape entries)) seen in
+    ap (λ (n : ℕ). total (size field) n shown) (randoms-moved (placement reads (length entries)) gadget.instrs)
+    ∙ total-same (size field) (randoms gadget.instrs) shown (λ tape. one_if_equal (alone tape (length state)) seen)
+    (λ tape here. ap (λ (view : List ℕ). one_if_equal view seen)
+    (placed-seen field maps gadget count reads tape entries probes outs below fit within bank ∙ ap (alone tape) (sym (length-observation reads entries))))
+
 -- the law holds
 pub PlacedLaw-holds : (field : FieldId) (maps : List AddMap) → PlacedLaw field maps
 PlacedLaw-holds field maps = record {
   entry = placed-entry field maps;
   view = placed-seen field maps;
+  ways = placed-ways field maps;
   count = λ gadget reads base. length-map gadget.instrs (moved (placement reads base));
   random = λ gadget reads base. randoms-moved (placement reads base) gadget.instrs;
 }
