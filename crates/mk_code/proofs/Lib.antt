@@ -8,3 +8,5 @@ pub mod Steps
 pub mod Runs
 pub mod Examples
 pub mod ColumnTest
+pub mod Matching
+pub mod TakenOut

@@ -1,9 +1,9 @@
--- Two small codes, and what they show.
+-- Three small codes, and what they show.
 use Rattle.std.specs.Prelude.{◌≡◌, [], ◌∷◌, refl}
 use Rattle.mk_field.specs.declared.field.FieldId.TheVariants.{Gf2, Gf256}
 use Rattle.mk_field.specs.Field.{sum_bits}
 use Rattle.mk_field.specs.Sharing.{field_sum, encodings}
-use Rattle.mk_code.specs.declared.instr.Instr.TheVariants.{Rnd, Add, Mul}
+use Rattle.mk_code.specs.declared.instr.Instr.TheVariants.{Rnd, Const, Copy, Add, Mul, Sq, Map}
 use Rattle.mk_code.specs.Listing.{Listing}
 use Rattle.mk_code.specs.Trace.{randoms, run, trace}
 use Rattle.mk_code.specs.Counting.{sum_below, total, one_if_equal}
@@ -57,3 +57,16 @@ byte_sum = record {
 pub byte_sum-57-83 : trace byte_sum [] (0x02 ∷ 0x55 ∷ 0xd6 ∷ 0x55 ∷ []) [] ≡ 0x02 ∷ 0x55 ∷ 0xd6 ∷ 0x55 ∷ 0xd4 ∷ 0x00 ∷ []
 unfolding run
 byte_sum-57-83 = refl
+
+-- at order 1 a secret byte plus a public one, times it, squared, and its image under a map that doubles: a
+-- lifted value, and instructions of every kind that works share by share
+abbrev pub linear_bytes : Listing
+linear_bytes = record {
+  field = Gf256;
+  order = 1;
+  secrets = 1;
+  publics = 1;
+  maps = record { images = 0x02 ∷ 0x04 ∷ 0x08 ∷ 0x10 ∷ 0x20 ∷ 0x40 ∷ 0x80 ∷ 0x1b ∷ [] } ∷ [];
+  instrs = Copy 2 ∷ Const 0 ∷ Add 0 3 ∷ Add 1 4 ∷ Mul 5 2 ∷ Mul 6 2 ∷ Sq 7 ∷ Sq 8 ∷ Map 0 9 ∷ Map 0 10 ∷ [];
+  outs = 11 ∷ 12 ∷ [];
+}

@@ -1,11 +1,13 @@
 //! Emitters of linear gadgets.
 
-ghost use Rattle.std.specs.Prelude.{◌≡◌, ◌≤◌, ◌<◌, ◌+◌, ◌++◌, [], ◌∷◌, length, bit_xor, slice_index, IfOk, OnErr};
+ghost use Rattle.std.specs.Prelude.{◌≡◌, ◌≤◌, ◌<◌, ◌+◌, ◌++◌, List, [], ◌∷◌, length, bit_xor, slice_index, IfOk, OnErr};
+ghost use Rattle.mk_field.specs.declared.map.AddMap.{AddMap};
 ghost use Rattle.mk_field.specs.Field.{product, square};
 ghost use Rattle.mk_code.specs.Counting.{AllBelow};
 ghost use Rattle.mk_code.specs.Draft.{draft_len};
 ghost use Rattle.mk_code.specs.Trace.{image_by};
 ghost use Rattle.mk_gadget.specs.Emitted.{Emitted, Gives, shared_at};
+ghost use Rattle.mk_gadget.specs.Steady.{IsSteady};
 ghost use Rattle.mk_gadget.specs.Template.{addition, public_addition, scaling, squaring, mapping, lift};
 
 use mk_base::Memory;
@@ -31,6 +33,7 @@ pub fn emit_add<F: Field, const N: usize>(
     requires right { AllBelow (draft_len builder.old) y.now.regs }
     ensures emitted { IfOk result (λ bank. Emitted builder.old builder.new (x.now.regs ++ y.now.regs) (addition N) bank.regs) }
     ensures value { IfOk result (λ bank. Gives F.ID builder.old.maps N (draft_len builder.old) (x.now.regs ++ y.now.regs) (addition N) (λ entries. bit_xor (shared_at x.now.regs entries) (shared_at y.now.regs entries))) }
+    ensures steady { (maps : List AddMap) → IsSteady F.ID maps N 2 0 (addition N) }
     ensures memory { OnErr result (builder.new ≡ record builder.old { spare = builder.new.spare }) }
 {
     count_law(&x.regs);
@@ -60,6 +63,7 @@ pub fn emit_add_public<F: Field, const N: usize>(
     requires public { p < draft_len builder.old }
     ensures emitted { IfOk result (λ bank. Emitted builder.old builder.new (x.now.regs ++ p ∷ []) (public_addition N) bank.regs) }
     ensures value { IfOk result (λ bank. Gives F.ID builder.old.maps N (draft_len builder.old) (x.now.regs ++ p ∷ []) (public_addition N) (λ entries. bit_xor (shared_at x.now.regs entries) (slice_index entries p))) }
+    ensures steady { (maps : List AddMap) → IsSteady F.ID maps N 1 1 (public_addition N) }
     ensures memory { OnErr result (builder.new ≡ record builder.old { spare = builder.new.spare }) }
 {
     count_law(&x.regs);
@@ -91,6 +95,7 @@ pub fn emit_scale_public<F: Field, const N: usize>(
     requires public { p < draft_len builder.old }
     ensures emitted { IfOk result (λ bank. Emitted builder.old builder.new (x.now.regs ++ p ∷ []) (scaling N) bank.regs) }
     ensures value { IfOk result (λ bank. Gives F.ID builder.old.maps N (draft_len builder.old) (x.now.regs ++ p ∷ []) (scaling N) (λ entries. product F.ID (shared_at x.now.regs entries) (slice_index entries p))) }
+    ensures steady { (maps : List AddMap) → IsSteady F.ID maps N 1 1 (scaling N) }
     ensures memory { OnErr result (builder.new ≡ record builder.old { spare = builder.new.spare }) }
 {
     count_law(&x.regs);
@@ -116,6 +121,7 @@ pub fn emit_sq<F: Field, const N: usize>(
     requires shared { AllBelow (draft_len builder.old) x.now.regs }
     ensures emitted { IfOk result (λ bank. Emitted builder.old builder.new x.now.regs (squaring N) bank.regs) }
     ensures value { IfOk result (λ bank. Gives F.ID builder.old.maps N (draft_len builder.old) x.now.regs (squaring N) (λ entries. square F.ID (shared_at x.now.regs entries))) }
+    ensures steady { (maps : List AddMap) → IsSteady F.ID maps N 1 0 (squaring N) }
     ensures memory { OnErr result (builder.new ≡ record builder.old { spare = builder.new.spare }) }
 {
     count_law(&x.regs);
@@ -143,6 +149,7 @@ pub fn emit_map<F: Field, const N: usize>(
     requires shared { AllBelow (draft_len builder.old) x.now.regs }
     ensures emitted { IfOk result (λ bank. Emitted builder.old builder.new x.now.regs (mapping N map) bank.regs) }
     ensures value { IfOk result (λ bank. Gives F.ID builder.old.maps N (draft_len builder.old) x.now.regs (mapping N map) (λ entries. image_by builder.old.maps map (shared_at x.now.regs entries))) }
+    ensures steady { (maps : List AddMap) → IsSteady F.ID maps N 1 0 (mapping N map) }
     ensures memory { OnErr result (builder.new ≡ record builder.old { spare = builder.new.spare }) }
 {
     count_law(&x.regs);
@@ -169,6 +176,7 @@ pub fn emit_lift<F: Field, const N: usize>(
     requires public { p < draft_len builder.old }
     ensures emitted { IfOk result (λ bank. Emitted builder.old builder.new (p ∷ []) (lift N) bank.regs) }
     ensures value { IfOk result (λ bank. Gives F.ID builder.old.maps N (draft_len builder.old) (p ∷ []) (lift N) (λ entries. slice_index entries p)) }
+    ensures steady { (maps : List AddMap) → IsSteady F.ID maps N 0 1 (lift N) }
     ensures memory { OnErr result (builder.new ≡ record builder.old { spare = builder.new.spare }) }
 {
     builder.reserve(N as u32)?;

@@ -8,6 +8,7 @@ use Rattle.mk_gadget.specs.Template.{public_addition}
 use Rattle.mk_gadget.proofs.AddTemplate.{AllBelow-at}
 use Rattle.mk_gadget.proofs.Emitting.{Emitting-start, Emitting-length, Emitting-fits, Emitting-more, Emitting-all}
 use Rattle.mk_gadget.proofs.Values.{public_addition-row, public_addition-placed, public_addition-gives, outs-behind, bank-and-one, public_addition-later}
+use Rattle.mk_gadget.proofs.Steady.{public_addition-steady}
 use Rattle.mk_gadget.proofs.linear.emit_add_public.Goals as goal
 
 pub loop-share-init : goal.loop-share-init
@@ -51,3 +52,9 @@ push-requires-clause-fits g c =
     AllBelow-at (draft_len c.args.builder.now) c.args.x.now.regs 0 c.requires.shared (omega (arith, c.requires.least)) in
     let len : draft_len c.reserve.new.self ≡ draft_len c.args.builder.now = ap draft_len c.in_ok-reserve.ensures.same in
     (omega (arith, here, len), omega (arith, c.requires.public, len))
+
+pub returns-clause-steady : goal.returns-clause-steady
+returns-clause-steady g c = λ maps. public_addition-steady _ maps g.row.N
+
+pub returns-in_err-reserve-clause-steady : goal.returns-in_err-reserve-clause-steady
+returns-in_err-reserve-clause-steady g c = λ maps. public_addition-steady _ maps g.row.N

@@ -7,6 +7,7 @@ use Rattle.mk_code.specs.Draft.{draft_len}
 use Rattle.mk_gadget.specs.Template.{lift}
 use Rattle.mk_gadget.proofs.Emitting.{Emitting-start, Emitting-length, Emitting-more, Emitting-all}
 use Rattle.mk_gadget.proofs.Values.{lift-row, lift-placed, lift-gives, outs-behind, lift-later}
+use Rattle.mk_gadget.proofs.Steady.{unshared-steady}
 use Rattle.mk_gadget.proofs.linear.emit_lift.Goals as goal
 
 pub loop-share-init : goal.loop-share-init
@@ -38,3 +39,9 @@ returns-clause-emitted g c =
 
 pub returns-clause-value : goal.returns-clause-value
 returns-clause-value g c = lift-gives _ _ g.row.N _ c.args.p (omega (arith, c.requires.least)) c.requires.public
+
+pub returns-clause-steady : goal.returns-clause-steady
+returns-clause-steady g c = λ maps. unshared-steady _ maps g.row.N 1 (lift g.row.N)
+
+pub returns-in_err-reserve-clause-steady : goal.returns-in_err-reserve-clause-steady
+returns-in_err-reserve-clause-steady g c = λ maps. unshared-steady _ maps g.row.N 1 (lift g.row.N)

@@ -7,6 +7,7 @@ use Rattle.mk_gadget.specs.Template.{mapping}
 use Rattle.mk_gadget.proofs.AddTemplate.{AllBelow-at}
 use Rattle.mk_gadget.proofs.Emitting.{Emitting-start, Emitting-length, Emitting-fits, Emitting-more, Emitting-all}
 use Rattle.mk_gadget.proofs.Values.{mapping-row, mapping-placed, mapping-gives, outs-behind}
+use Rattle.mk_gadget.proofs.Steady.{mapping-steady}
 use Rattle.mk_gadget.proofs.linear.emit_map.Goals as goal
 
 pub loop-share-init : goal.loop-share-init
@@ -38,3 +39,9 @@ returns-clause-emitted g c =
 
 pub returns-clause-value : goal.returns-clause-value
 returns-clause-value g c = mapping-gives _ _ g.row.N _ c.args.map c.args.x.now.regs c.requires.map (omega arith) c.requires.shared
+
+pub returns-clause-steady : goal.returns-clause-steady
+returns-clause-steady g c = λ maps. mapping-steady _ maps g.row.N c.args.map
+
+pub returns-in_err-reserve-clause-steady : goal.returns-in_err-reserve-clause-steady
+returns-in_err-reserve-clause-steady g c = λ maps. mapping-steady _ maps g.row.N c.args.map

@@ -7,6 +7,7 @@ use Rattle.mk_gadget.specs.Template.{scaling}
 use Rattle.mk_gadget.proofs.AddTemplate.{AllBelow-at}
 use Rattle.mk_gadget.proofs.Emitting.{Emitting-start, Emitting-length, Emitting-fits, Emitting-more, Emitting-all}
 use Rattle.mk_gadget.proofs.Values.{scaling-row, scaling-placed, scaling-gives, outs-behind, bank-and-one}
+use Rattle.mk_gadget.proofs.Steady.{scaling-steady}
 use Rattle.mk_gadget.proofs.linear.emit_scale_public.Goals as goal
 
 pub loop-share-init : goal.loop-share-init
@@ -38,3 +39,9 @@ returns-clause-emitted g c =
 
 pub returns-clause-value : goal.returns-clause-value
 returns-clause-value g c = scaling-gives _ _ g.row.N _ c.args.x.now.regs c.args.p (omega arith) c.requires.shared c.requires.public
+
+pub returns-clause-steady : goal.returns-clause-steady
+returns-clause-steady g c = λ maps. scaling-steady _ maps g.row.N
+
+pub returns-in_err-reserve-clause-steady : goal.returns-in_err-reserve-clause-steady
+returns-in_err-reserve-clause-steady g c = λ maps. scaling-steady _ maps g.row.N

@@ -7,6 +7,7 @@ use Rattle.mk_gadget.specs.Template.{squaring}
 use Rattle.mk_gadget.proofs.AddTemplate.{AllBelow-at}
 use Rattle.mk_gadget.proofs.Emitting.{Emitting-start, Emitting-length, Emitting-fits, Emitting-more, Emitting-all}
 use Rattle.mk_gadget.proofs.Values.{squaring-row, squaring-placed, squaring-gives, outs-behind}
+use Rattle.mk_gadget.proofs.Steady.{squaring-steady}
 use Rattle.mk_gadget.proofs.linear.emit_sq.Goals as goal
 
 pub loop-share-init : goal.loop-share-init
@@ -38,3 +39,9 @@ returns-clause-emitted g c =
 
 pub returns-clause-value : goal.returns-clause-value
 returns-clause-value g c = squaring-gives _ _ g.row.N _ c.args.x.now.regs (omega arith) c.requires.shared
+
+pub returns-clause-steady : goal.returns-clause-steady
+returns-clause-steady g c = λ maps. squaring-steady _ maps g.row.N
+
+pub returns-in_err-reserve-clause-steady : goal.returns-in_err-reserve-clause-steady
+returns-in_err-reserve-clause-steady g c = λ maps. squaring-steady _ maps g.row.N
