@@ -1,0 +1,4 @@
+pub mod Tokens
+pub mod Phrases
+pub mod Grammar
+pub mod Spells

@@ -1,0 +1,12 @@
+//! Source programs as trees: what the texts of the language spell, what a regular tree is, and the
+//! canonical text of a tree. The trees keep the places of their names and elements.
+#![tactic(auto)]
+
+mod refusal;
+mod tree;
+
+pub use refusal::{Limit, SourceRefusal};
+pub use tree::{
+    Class, Decl, DeclList, ElementList, Expr, ExprList, Index, IndexList, Link, LinkList, Name,
+    Program, Ref, Stmt, StmtList, What,
+};
