@@ -1,0 +1,4 @@
+mod Laws
+mod Joined
+mod Choices
+mod Many

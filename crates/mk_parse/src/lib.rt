@@ -1,0 +1,2 @@
+//! Reads source texts.
+#![tactic(auto)]
