@@ -231,3 +231,125 @@ module _ {A : Type 0} (test : Token → Bool) (more : Token → Bool)
     sample_value = [];
     sampled = refl;
   }
+
+-- the phrase at least once, with the symbol between
+module _ {A : Type 0} (symbol : List ℕ) (more : Token → Bool) {reader : Reader A} {phrase : Phrase A} {goes_on : Token → Bool} (reads : Reads reader phrase goes_on)
+    (stop : (t : Token) → more t ≡ false → goes_on t ≡ false) (more_stops : (t : Token) → more t ≡ false → says symbol t ≡ false)
+    (symbol_stops : (t : Token) → says symbol t ≡ true → goes_on t ≡ false) where
+  others_read : Reads (every (says symbol) (past symbol reader)) (many (after symbol phrase)) more
+  others_read = reads_many (says symbol) more (reads_after symbol reads) (after_begins symbol phrase) stop more_stops symbol_stops
+
+  stops_at : (back : List Token) (xs : List A) (rest : List Token) → many (after symbol phrase) back xs → Stops more rest → Stops goes_on (back ++ rest)
+  stops_at back [] rest h s = subst (λ (l : List Token). Stops goes_on (l ++ rest)) (sym h) (stops_weaker more goes_on stop rest s)
+  stops_at back (a ∷ xs) rest h s =
+      let b = after_begins symbol phrase h.0 a h.3 in
+      let same : back ≡ (b.0 ∷ b.1) ++ h.1 = h.2 ∙ ap (λ (l : List Token). l ++ h.1) b.2 in
+      subst (λ (l : List Token). Stops goes_on (l ++ rest)) (sym same) (symbol_stops b.0 b.3)
+
+  pub reads_separated : Reads (parted symbol reader) (separated symbol phrase) more
+  reads_separated = reads_made (λ (x : A × List A). x.0 ∷ x.1) (reads_and reads others_read stops_at)
+
+-- the phrase, or no token
+module _ {A : Type 0} (test : Token → Bool) (more : Token → Bool) {reader : Reader A} {phrase : Phrase A} {goes_on : Token → Bool} (reads : Reads reader phrase goes_on)
+    (begins : BeginsBy test phrase) (stop : (t : Token) → more t ≡ false → goes_on t ≡ false) (more_stops : (t : Token) → more t ≡ false → test t ≡ false) where
+  apart : (back : List Token) (b : Option A) (rest : List Token) → empty {A = Option A} None back b → Stops more rest → starts test (back ++ rest) ≡ false
+  apart back b rest h s = ap (λ (l : List Token). starts test (l ++ rest)) h.0 ∙ none rest s
+    where
+      none : (rest : List Token) → Stops more rest → starts test rest ≡ false
+      none [] s = refl
+      none (t ∷ ts) s = more_stops t s
+
+  some_begins : BeginsBy test (made {B = Option A} Some phrase)
+  some_begins ts o spelled = begins ts spelled.0 spelled.1
+
+  optional_to : (ts : List Token) (o : Option A) → (made {B = Option A} Some phrase or empty None) ts o → optional phrase ts o
+  optional_to ts o (inl h) = subst (optional phrase ts) (sym h.2) h.1
+  optional_to ts o (inr h) = subst (optional phrase ts) (sym h.1) h.0
+
+  optional_from : (ts : List Token) (o : Option A) → optional phrase ts o → (made {B = Option A} Some phrase or empty None) ts o
+  optional_from ts None h = inr (h, refl)
+  optional_from ts (Some a) h = inl (a, h, refl)
+
+  pub reads_optional : Reads (perhaps test reader) (optional phrase) more
+  reads_optional = reads_same (reads_or test more (reads_made {B = Option A} Some reads) some_begins stop (reads_empty {A = Option A} None more) apart (λ t e. e)) optional_to optional_from
+
+-- what the whole list spells
+module _ {A : Type 0} {reader : Reader A} {phrase : Phrase A} {goes_on : Token → Bool} (reads : Reads reader phrase goes_on) where
+  pub all_only : (ts : List Token) (a : A) → phrase ts a → finished (reader ts) ≡ Ok a
+  all_only ts a spelled =
+      ap finished (ap reader (sym (append-nil ts)) ∙ reads.only ts a [] spelled tt)
+
+  none_left : (a : A) (rest : List Token) (b : A) → with_none_left a rest ≡ Ok b → (rest ≡ []) × (a ≡ b)
+  none_left a [] b e = (refl, cc)
+  none_left a (t ∷ ts) b e = absurd cc
+
+  some_left : (a : A) (rest bad : List Token) → with_none_left a rest ≡ Err bad → (t : Token) × (ts : List Token) × (rest ≡ t ∷ ts) × (rest ≡ bad)
+  some_left a [] bad e = absurd cc
+  some_left a (t ∷ ts) bad e = (t, ts, refl, cc)
+
+  all_found_by : (r : Reading A) (ts : List Token) (a : A) → reader ts ≡ r → finished r ≡ Ok a → phrase ts a
+  all_found_by (Err bad) ts a is e = absurd cc
+  all_found_by (Ok x) ts a is e =
+      let h = none_left x.0 x.1 a e in
+      let found = reads.found ts x.0 x.1 is in
+      let whole : found.taken ≡ ts = sym (append-nil found.taken) ∙ ap (λ (l : List Token). found.taken ++ l) (sym h.0) ∙ sym found.parts in
+      subst (λ (l : List Token). phrase l a) whole (subst (phrase found.taken) h.1 found.spelled)
+
+  pub all_found : (ts : List Token) (a : A) → finished (reader ts) ≡ Ok a → phrase ts a
+  all_found ts a e = all_found_by (reader ts) ts a refl e
+
+  -- nothing that the phrase spells begins so
+  abbrev pub IsDead : List Token → List Token → Type 0
+  IsDead taken [] = (a : A) → phrase taken a → ⊥
+  IsDead taken (t ∷ ts) = (more : List Token) (a : A) → phrase ((taken ++ t ∷ []) ++ more) a → ⊥
+
+  pub record AllStuck (ts bad : List Token) : Type 0 where
+    pub taken : List Token
+    pub parts : ts ≡ taken ++ bad
+    pub more : List Token
+    pub value : A
+    pub completed : phrase (taken ++ more) value
+    pub dead : IsDead taken bad
+
+  dead_by : (taken bad : List Token) → ((other : List Token) → SameHead bad other → finished (reader (taken ++ other)) ≡ Err other) → IsDead taken bad
+  dead_by taken [] fails = λ a spelled.
+      let e = sym (all_only taken a spelled) ∙ ap (λ (l : List Token). finished (reader l)) (sym (append-nil taken)) ∙ fails [] tt in
+      absurd cc
+  dead_by taken (t ∷ ts) fails = λ more a spelled.
+      let e = sym (all_only ((taken ++ t ∷ []) ++ more) a spelled)
+          ∙ ap (λ (l : List Token). finished (reader l)) (append_assoc taken (t ∷ []) more) ∙ fails (t ∷ more) refl in
+      absurd cc
+
+  left_over : (a : A) (t : Token) (ts other : List Token) → SameHead (t ∷ ts) other → with_none_left a other ≡ Err other
+  left_over a t ts [] s = absurd s
+  left_over a t ts (u ∷ us) s = refl
+
+  all_stuck_by : (r : Reading A) (ts bad : List Token) → reader ts ≡ r → finished r ≡ Err bad → AllStuck ts bad
+  all_stuck_by (Err b) ts bad is e =
+      let same : b ≡ bad = cc in
+      let stuck = reads.stuck ts bad (is ∙ ap (refused A) same) in
+      record {
+        taken = stuck.taken;
+        parts = stuck.parts;
+        more = stuck.more;
+        value = stuck.value;
+        completed = stuck.completed;
+        dead = dead_by stuck.taken bad (λ other s. ap finished (stuck.again other s));
+      }
+  all_stuck_by (Ok x) ts bad is e =
+      let h = some_left x.0 x.1 bad e in
+      let found = reads.found ts x.0 x.1 is in
+      record {
+        taken = found.taken;
+        parts = found.parts ∙ ap (λ (l : List Token). found.taken ++ l) h.3;
+        more = [];
+        value = x.0;
+        completed = subst (λ (l : List Token). phrase l x.0) (sym (append-nil found.taken)) found.spelled;
+        dead = dead_by found.taken bad (λ other s.
+            let head : SameHead x.1 other = subst (λ (l : List Token). SameHead l other) (sym h.3) s in
+            ap finished (found.again other head)
+            ∙ left_over x.0 h.0 h.1 other (subst (λ (l : List Token). SameHead l other) h.2 head));
+      }
+
+  pub all_stuck : (ts bad : List Token) → finished (reader ts) ≡ Err bad → AllStuck ts bad
+  all_stuck ts bad e = all_stuck_by (reader ts) ts bad refl e
