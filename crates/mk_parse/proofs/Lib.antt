@@ -2,3 +2,4 @@ mod Laws
 mod Joined
 mod Choices
 mod Many
+pub mod Decoding

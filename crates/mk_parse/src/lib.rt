@@ -1,2 +1,7 @@
-//! Reads source texts.
+//! Reading source texts: their tokens, and the programs that they spell.
 #![tactic(auto)]
+
+mod token;
+mod words;
+
+pub use token::{Token, TokenKind, TokenList};
