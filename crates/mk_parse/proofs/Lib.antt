@@ -3,3 +3,4 @@ mod Joined
 mod Choices
 mod Many
 pub mod Decoding
+mod Terminals

@@ -37,7 +37,7 @@ is_among [] text = false
 is_among (w ∷ ws) text = bytes_eq w text || is_among ws text
 
 -- the token is a name
-pub is_name : Token → Bool
+unfoldable pub is_name : Token → Bool
 is_name t = is_word t.text && not (is_among reserved t.text)
 
 abbrev pub where_true : {A : Type 0} → Bool → A → Option A
@@ -51,7 +51,7 @@ unfoldable pub last_below : ℕ → (ℕ → Bool) → Option ℕ
 last_below zero p = None
 last_below (suc n) p = if p n then Some n else last_below n p
 
-pub number_of : Token → Option ℕ
+unfoldable pub number_of : Token → Option ℕ
 number_of t = last_below 65536 (λ n. bytes_eq t.text (decimal n))
 
 abbrev pub positive : Option ℕ → Option ℕ
