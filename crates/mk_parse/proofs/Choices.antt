@@ -225,3 +225,76 @@ module _ {A : Type 0} (test : Token → Bool) (more : Token → Bool)
     sample_value = reads.sample_value;
     sampled = reads.sampled;
   }
+
+-- where the first phrase of a choice is closed
+module _ {A : Type 0} (test : Token → Bool) {second : Reader A} {phrase : Phrase A} {goes_on : Token → Bool} (reads : Reads second phrase goes_on)
+    (apart : (back : List Token) (a : A) (rest : List Token) → phrase back a → Stops goes_on rest → starts test (back ++ rest) ≡ false) where
+  closed_is : (ts : List Token) → starts test ts ≡ false → chosen test fails second ts ≡ second ts
+  closed_is ts e = ap (λ (b : Bool). cond b (refused A ts) (second ts)) e
+
+  closed_fails : (ts : List Token) → starts test ts ≡ true → chosen test fails second ts ≡ Err ts
+  closed_fails ts e = ap (λ (b : Bool). cond b (refused A ts) (second ts)) e
+
+  kept_closed : (ts taken rest other : List Token) (b : Bool) → ts ≡ taken ++ rest → SameHead rest other → starts test ts ≡ b → starts test (taken ++ other) ≡ b
+  kept_closed ts taken rest other b parts s e = starts_same test (taken ++ rest) (taken ++ other) (same_head taken rest other s) ∙ ap (starts test) (sym parts) ∙ e
+
+  closed_found : (ts : List Token) (a : A) (rest : List Token) → chosen test fails second ts ≡ Ok (a, rest) → Found (chosen test fails second) phrase ts a rest
+  closed_found ts a rest e = elim (cond_is (starts test ts) (refused A ts) (second ts) (Ok (a, rest)) e) [
+    inl h ↦ absurd (let wrong = h.1 in cc)
+    | inr h ↦ (
+      let found = reads.found ts a rest h.1 in
+      record {
+        taken = found.taken;
+        parts = found.parts;
+        spelled = found.spelled;
+        again = λ other s. closed_is (found.taken ++ other) (kept_closed ts found.taken rest other false found.parts s h.0) ∙ found.again other s;
+      })
+  ]
+
+  closed_stuck : (ts bad : List Token) → chosen test fails second ts ≡ Err bad → Stuck (chosen test fails second) phrase ts bad
+  closed_stuck ts bad e = elim (cond_is (starts test ts) (refused A ts) (second ts) (Err bad) e) [
+    inl h ↦ stuck_here (chosen test fails second) phrase ts bad reads.sample reads.sample_value (err_same A ts bad h.1) reads.sampled
+        (λ other s. closed_fails other (starts_same test ts other s ∙ h.0))
+    | inr h ↦ (
+      let stuck = reads.stuck ts bad h.1 in
+      record {
+        taken = stuck.taken;
+        parts = stuck.parts;
+        more = stuck.more;
+        value = stuck.value;
+        completed = stuck.completed;
+        again = λ other s. closed_is (stuck.taken ++ other) (kept_closed ts stuck.taken bad other false stuck.parts s h.0) ∙ stuck.again other s;
+      })
+  ]
+
+  pub reads_closed : Reads (chosen test fails second) phrase goes_on
+  reads_closed = record {
+    found = closed_found;
+    only = λ taken a rest spelled stops. closed_is (taken ++ rest) (apart taken a rest spelled stops) ∙ reads.only taken a rest spelled stops;
+    stuck = closed_stuck;
+    sample = reads.sample;
+    sample_value = reads.sample_value;
+    sampled = reads.sampled;
+  }
+
+pub stops_never : (ts : List Token) → Stops never ts
+stops_never [] = tt
+stops_never (t ∷ ts) = refl
+
+pub made_begins : {A B : Type 0} (test : Token → Bool) (f : A → B) (phrase : Phrase A) → BeginsBy test phrase → BeginsBy test (made f phrase)
+made_begins test f phrase begins ts b spelled = begins ts spelled.0 spelled.1
+
+pub and_begins : {A B : Type 0} (test : Token → Bool) (first : Phrase A) (second : Phrase B) → BeginsBy test first → BeginsBy test (first and second)
+and_begins test first second begins ts x spelled =
+    let b = begins spelled.0 x.0 spelled.3 in
+    (b.0, b.1 ++ spelled.1, spelled.2 ∙ ap (λ (l : List Token). l ++ spelled.1) b.2, b.3)
+
+pub one_begins : {A : Type 0} (test : Token → Bool) (Gives : Token → A → Type 0) → ((t : Token) (a : A) → Gives t a → test t ≡ true) → BeginsBy test (one Gives)
+one_begins test Gives passes ts a spelled = (spelled.0, [], spelled.1, passes spelled.0 a spelled.2)
+
+-- what begins otherwise
+pub apart_by : {A : Type 0} (test other : Token → Bool) (phrase : Phrase A) → BeginsBy other phrase → ((t : Token) → other t ≡ true → test t ≡ false)
+    → (back : List Token) (a : A) (rest : List Token) → phrase back a → starts test (back ++ rest) ≡ false
+apart_by test other phrase begins differ back a rest spelled =
+    let b = begins back a spelled in
+    ap (λ (l : List Token). starts test (l ++ rest)) b.2 ∙ differ b.0 b.3

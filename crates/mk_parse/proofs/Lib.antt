@@ -4,3 +4,4 @@ mod Choices
 mod Many
 pub mod Decoding
 mod Terminals
+mod Indexes
