@@ -152,7 +152,7 @@ closing_stops t is = rw (says_other (codes ")") (codes "+") t is refl, says_othe
 pub square_stops : (t : Token) → t.text ≡ codes "]" → index_more t ≡ false
 square_stops t is = rw (says_other (codes "]") (codes "+") t is refl, says_other (codes "]") (codes "*") t is refl, says_other (codes "]") (codes "%") t is refl) refl
 
-open_no_name : (t : Token) → says (codes "(") t ≡ true → is_name t ≡ false
+pub open_no_name : (t : Token) → says (codes "(") t ≡ true → is_name t ≡ false
 unfolding is_among all_go_on
 open_no_name t e = no_name (codes "(") t (says_is (codes "(") t e) refl
 

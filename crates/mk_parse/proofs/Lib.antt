@@ -5,3 +5,4 @@ mod Many
 pub mod Decoding
 mod Terminals
 mod Indexes
+mod Expressions
