@@ -6,3 +6,4 @@ pub mod Decoding
 mod Terminals
 mod Indexes
 mod Expressions
+mod Statements
