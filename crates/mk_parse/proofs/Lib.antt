@@ -1,1 +1,5 @@
 pub mod Decoding
+pub mod Gaps
+pub mod Munching
+pub mod Placing
+pub mod Lexed

@@ -1,0 +1,1 @@
+-- Texts have their tokens in one way only.
