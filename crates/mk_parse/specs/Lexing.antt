@@ -32,6 +32,21 @@ AreSpans text start (token ∷ tokens) =
 abbrev pub NoTokenBegins : List ℕ → Type 0
 NoTokenBegins here = (word rest : List ℕ) → here ≡ word ++ rest → IsToken word rest → ⊥
 
+-- this is the place at this index into the text
+abbrev pub IsPlaced : List ℕ → ℕ → Place → Type 0
+IsPlaced text index at = (index ≤ length text) × (at ≡ place_behind (take index text))
+
+-- between these indexes is a gap, which may be a last one where the text ends with it
+abbrev pub IsGapBetween : List ℕ → ℕ → ℕ → Type 0
+IsGapBetween text from to =
+    (from ≤ to)
+    × (IsGap (take (to - from) (drop from text)) ⊎ (IsLastGap (take (to - from) (drop from text)) × (drop to text ≡ [])))
+
+-- between these indexes is a token of this kind
+abbrev pub IsTokenBetween : List ℕ → ℕ → TokenKind → ℕ → Type 0
+IsTokenBetween text from kind to =
+    (from < to) × IsOfKind kind (take (to - from) (drop from text)) × IsToken (take (to - from) (drop from text)) (drop to text)
+
 -- Tokens are at the front of the text, as far as tokens go: a gap comes behind them, and then, at this
 -- place, the text ends or no token begins.
 pub record IsLexed (text : List ℕ) (tokens : List Token) (at : Place) (whole : Bool) : Type 0 where

@@ -1,14 +1,31 @@
 //! From the bytes of a text to its tokens.
 
-ghost use Rattle.std.specs.Prelude.{◌≡◌, ℕ, ◌+◌, ◌≤◌, ◌<◌, ◌↔◌, ◌⊎◌, ◌||◌, ◌==◌, ◌++◌, List, [], ◌∷◌, length, take, drop, not, if◌then◌else◌, IfOk, IsTrue, MatchOption, Contains};
+ghost use Rattle.std.specs.Prelude.{◌≡◌, ℕ, ◌+◌, ◌^◌, ◌≤◌, ◌<◌, ◌↔◌, ◌⊎◌, ◌||◌, ◌==◌, ◌++◌, List, [], ◌∷◌, length, take, drop, not, if◌then◌else◌, IfOk, IsTrue, MatchOption, Contains};
 ghost use Rattle.std.specs.List.{prefix_len};
 ghost use Rattle.mk_ast.specs.Tokens.{is_blank, begins_word, goes_on, place_behind, IsGap, IsLastGap, IsToken, IsWord, symbols};
 ghost use Rattle.mk_ast.specs.Spells.{NoGapBegins};
-ghost use Rattle.mk_parse.specs.Lexing.{IsOfKind};
+ghost use Rattle.mk_parse.specs.Lexing.{IsOfKind, IsPlaced, IsGapBetween, IsTokenBetween, NoTokenBegins};
 
-use crate::token::TokenKind;
+use crate::token::{Token, TokenKind, TokenList};
 use crate::words::{element, number};
-use mk_base::Place;
+use mk_ast::SourceRefusal;
+use mk_base::{Items, Memory, Place};
+use std::alloc::Global;
+
+/// An index into a text, and the place there.
+#[derive(Clone, Copy)]
+struct Spot {
+    index: usize,
+    at: Place,
+}
+
+/// The tokens at the front of a text, the place behind them and behind the gap that follows, and
+/// whether the text ends there.
+pub(crate) struct Lexed {
+    pub(crate) tokens: TokenList,
+    pub(crate) end: Place,
+    pub(crate) whole: bool,
+}
 
 /// Whether this byte is a blank.
 fn is_blank(byte: u8) -> bool
@@ -127,4 +144,75 @@ fn piece_length(bytes: &[u8]) -> usize
         return bytes.len().min(2);
     }
     1
+}
+
+/// The place behind a byte that stands at this place.
+fn behind(at: Place, byte: u8) -> Place
+    requires line { at.line < 2 ^ 31 }
+    requires column { at.column < 2 ^ 31 }
+    ensures place { (front : List ℕ) → at ≡ place_behind front → result ≡ place_behind (front ++ byte ∷ []) }
+    ensures line { result.line ≤ at.line + 1 }
+    ensures column { result.column ≤ at.column + 1 }
+{
+    if byte == b'\n' {
+        return Place {
+            line: at.line + 1,
+            column: 1,
+        };
+    }
+    Place {
+        line: at.line,
+        column: at.column + 1,
+    }
+}
+
+/// The place behind these bytes, which begin at this place.
+fn behind_all(at: Place, bytes: &[u8]) -> Place
+    requires line { at.line + length bytes.now < 2 ^ 31 }
+    requires column { at.column + length bytes.now < 2 ^ 31 }
+    ensures { (front : List ℕ) → at ≡ place_behind front → result ≡ place_behind (front ++ bytes.now) }
+{
+    let mut here = at;
+    for byte in bytes {
+        here = behind(here, *byte);
+    }
+    here
+}
+
+/// The spot so many bytes on.
+fn forward(text: &[u8], spot: Spot, count: usize) -> Spot
+    requires short { length text.now ≤ 1048576 }
+    requires within { spot.index + count ≤ length text.now }
+    requires placed { IsPlaced text.now spot.index spot.at }
+    ensures index { result.index ≡ spot.index + count }
+    ensures placed { IsPlaced text.now result.index result.at }
+{
+    let index = spot.index + count;
+    Spot {
+        index,
+        at: behind_all(spot.at, &text[spot.index..index]),
+    }
+}
+
+/// The spot behind the blanks and comments here.
+fn past_gap(text: &[u8], spot: Spot) -> Spot
+    requires short { length text.now ≤ 1048576 }
+    requires placed { IsPlaced text.now spot.index spot.at }
+    ensures placed { IsPlaced text.now result.index result.at }
+    ensures gap { IsGapBetween text.now spot.index result.index }
+    ensures begins { NoGapBegins (drop result.index text.now) }
+{
+    forward(text, spot, gap_length(&text[spot.index..]))
+}
+
+/// The kind of the token here, and the spot behind it.
+fn token_at(text: &[u8], spot: Spot) -> Option<(TokenKind, Spot)>
+    requires short { length text.now ≤ 1048576 }
+    requires placed { IsPlaced text.now spot.index spot.at }
+    ensures { MatchOption result (NoTokenBegins (drop spot.index text.now)) (λ found. IsTokenBetween text.now spot.index found.0 found.1.index × IsPlaced text.now found.1.index found.1.at) }
+{
+    let rest = &text[spot.index..];
+    let length = piece_length(rest);
+    let kind = kind_of(&rest[..length])?;
+    Some((kind, forward(text, spot, length)))
 }
