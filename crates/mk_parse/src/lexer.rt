@@ -1,10 +1,10 @@
 //! From the bytes of a text to its tokens.
 
-ghost use Rattle.std.specs.Prelude.{◌≡◌, ℕ, ◌+◌, ◌^◌, ◌≤◌, ◌<◌, ◌↔◌, ◌⊎◌, ◌||◌, ◌==◌, ◌++◌, List, [], ◌∷◌, length, take, drop, not, if◌then◌else◌, IfOk, IsTrue, MatchOption, Contains};
+ghost use Rattle.std.specs.Prelude.{◌≡◌, ℕ, ◌+◌, ◌^◌, ◌≤◌, ◌<◌, ◌↔◌, ◌⊎◌, ◌||◌, ◌==◌, ◌++◌, List, [], ◌∷◌, length, take, drop, not, if◌then◌else◌, IfOk, IsTrue, MatchOption, MatchResult, Contains};
 ghost use Rattle.std.specs.List.{prefix_len};
 ghost use Rattle.mk_ast.specs.Tokens.{is_blank, begins_word, goes_on, place_behind, IsGap, IsLastGap, IsToken, IsWord, symbols};
 ghost use Rattle.mk_ast.specs.Spells.{NoGapBegins};
-ghost use Rattle.mk_parse.specs.Lexing.{IsOfKind, IsPlaced, IsGapBetween, IsTokenBetween, NoTokenBegins};
+ghost use Rattle.mk_parse.specs.Lexing.{IsOfKind, IsPlaced, IsGapBetween, IsTokenBetween, IsLexed, AreAllTokens, IsTokenRefusal, NoTokenBegins};
 
 use crate::token::{Token, TokenKind, TokenList};
 use crate::words::{element, number};
@@ -19,8 +19,15 @@ struct Spot {
     at: Place,
 }
 
+/// The beginning of a text.
+const START: Spot = Spot {
+    index: 0,
+    at: Place { line: 1, column: 1 },
+};
+
 /// The tokens at the front of a text, the place behind them and behind the gap that follows, and
 /// whether the text ends there.
+#[derive(Drop)]
 pub(crate) struct Lexed {
     pub(crate) tokens: TokenList,
     pub(crate) end: Place,
@@ -215,4 +222,40 @@ fn token_at(text: &[u8], spot: Spot) -> Option<(TokenKind, Spot)>
     let length = piece_length(rest);
     let kind = kind_of(&rest[..length])?;
     Some((kind, forward(text, spot, length)))
+}
+
+/// The tokens at the front of a text, as far as they go.
+pub(crate) fn lex(alloc: Global, text: &[u8]) -> Result<Lexed, Memory>
+    requires { length text.now ≤ 1048576 }
+    ensures { IfOk result (λ lexed. IsLexed text.now lexed.tokens lexed.end lexed.whole) }
+{
+    let mut tokens = Items::new(alloc);
+    let mut spot = past_gap(text, START);
+    while let Some((kind, end)) = token_at(text, spot) {
+        tokens.push(Token {
+            kind,
+            from: spot.index as u32,
+            to: end.index as u32,
+            at: spot.at,
+        })?;
+        spot = past_gap(text, end);
+    }
+    Ok(Lexed {
+        tokens,
+        end: spot.at,
+        whole: spot.index == text.len(),
+    })
+}
+
+/// The tokens of a text of at most 1,048,576 bytes. It is `Syntax` with the first place where a byte
+/// begins no token or a run is a bad token, and `Memory` where memory was wanted and not found.
+pub fn tokens(alloc: Global, text: &[u8]) -> Result<TokenList, SourceRefusal>
+    requires { length text.now ≤ 1048576 }
+    ensures { MatchResult result (AreAllTokens text.now) (IsTokenRefusal text.now) }
+{
+    let Lexed { tokens, end, whole } = lex(alloc, text)?;
+    if !whole {
+        return Err(SourceRefusal::Syntax(end));
+    }
+    Ok(tokens)
 }

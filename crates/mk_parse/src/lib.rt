@@ -5,4 +5,5 @@ mod lexer;
 mod token;
 mod words;
 
+pub use lexer::tokens;
 pub use token::{Token, TokenKind, TokenList};
