@@ -4,7 +4,7 @@ use Rattle.std.proofs.lemmas.List.{append-nil}
 use Rattle.mk_base.specs.declared.Place.{Place}
 use Rattle.mk_ast.specs.Tokens.{Token}
 use Rattle.mk_ast.specs.Phrases.{Phrase, nothing, one, made, ◌or◌, ◌and◌, after, until, optional, many, separated}
-use Rattle.mk_parse.specs.Readers.{Reading, Reader, ◌>>=◌, starts, says, never, fails, skips, takes, makes, ◌next◌, past, ended, chosen, perhaps, repeats, every, parted}
+use Rattle.mk_parse.specs.Readers.{Reading, Reader, ◌>>=◌, starts, says, never, fails, skips, takes, makes, ◌next◌, expects, past, ended, chosen, perhaps, repeats, every, parted}
 use Rattle.mk_parse.proofs.Laws.{Stops, SameHead, Found, Stuck, Reads, BeginsBy, bind_ok, bind_err, read, refused, ok_same, err_same, cond_ok, cond_err, cond_is, says_is, is_says, same_head, same_head_nil, stops_same, starts_same, stuck_here, reads_made}
 use Rattle.mk_parse.proofs.Joined.{token_of, reads_after, reads_and}
 
@@ -70,20 +70,16 @@ reads_by same reads = record {
   sampled = reads.sampled;
 }
 
-past_once : {A : Type 0} (word : List ℕ) (a : A) (ts : List Token)
-    → past word (skips a) ts ≡ ((past word (skips tt) ts >>= (λ (y : Unit {0} × List Token). read (A × Unit {0}) ((a, y.0), y.1))) >>= (λ x. read A (x.0.0, x.1)))
-past_once word a [] = refl
-past_once word a (t ∷ ts) = once (says word t)
-  where
-    once : (b : Bool) → cond b (read _ (a, ts)) (Err (t ∷ ts))
-        ≡ ((cond b (read (Unit {0}) (tt, ts)) (Err (t ∷ ts)) >>= (λ (y : Unit {0} × List Token). read (_ × Unit {0}) ((a, y.0), y.1))) >>= (λ x. read _ (x.0.0, x.1)))
-    once true = refl
-    once false = refl
+ended_last : {A : Type 0} (a : A) (r : Reading (Unit {0}))
+    → (r >>= (λ y. read A (a, y.1)))
+    ≡ (((r >>= (λ x. skips tt x.1)) >>= (λ (y : Unit {0} × List Token). read (A × Unit {0}) ((a, y.0), y.1))) >>= (λ x. read A (x.0.0, x.1)))
+ended_last a (Ok x) = refl
+ended_last a (Err bad) = refl
 
 ended_once : {A : Type 0} (word : List ℕ) (r : Reading A)
-    → (r >>= (λ x. past word (skips x.0) x.1))
+    → (r >>= (λ x. expects word x.1 >>= (λ y. read A (x.0, y.1))))
     ≡ ((r >>= (λ x. past word (skips tt) x.1 >>= (λ (y : Unit {0} × List Token). read (A × Unit {0}) ((x.0, y.0), y.1)))) >>= (λ x. read A (x.0.0, x.1)))
-ended_once word (Ok x) = past_once word x.0 x.1
+ended_once word (Ok x) = ended_last x.0 (expects word x.1)
 ended_once word (Err bad) = refl
 
 -- the phrase, and then the word or symbol

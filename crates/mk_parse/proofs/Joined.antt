@@ -13,16 +13,20 @@ token_of word = record { text = word; at = record { line = 1; column = 1 } }
 
 -- the word or symbol, and then the phrase
 module _ {A : Type 0} (word : List ℕ) {reader : Reader A} {phrase : Phrase A} {goes_on : Token → Bool} (reads : Reads reader phrase goes_on) where
+  past_by : (b : Bool) (ts bad : List Token) → (cond b (read (Unit {0}) (tt, ts)) (Err bad) >>= (λ x. reader x.1)) ≡ cond b (reader ts) (Err bad)
+  past_by true ts bad = refl
+  past_by false ts bad = refl
+
   past_word : (t : Token) (ts : List Token) → t.text ≡ word → past word reader (t ∷ ts) ≡ reader ts
-  past_word t ts is = ap (λ (b : Bool). cond b (reader ts) (Err (t ∷ ts))) (is_says word t is)
+  past_word t ts is = past_by (says word t) ts (t ∷ ts) ∙ ap (λ (b : Bool). cond b (reader ts) (Err (t ∷ ts))) (is_says word t is)
 
   past_other : (t : Token) (ts : List Token) → says word t ≡ false → past word reader (t ∷ ts) ≡ Err (t ∷ ts)
-  past_other t ts isnt = ap (λ (b : Bool). cond b (reader ts) (Err (t ∷ ts))) isnt
+  past_other t ts isnt = past_by (says word t) ts (t ∷ ts) ∙ ap (λ (b : Bool). cond b (reader ts) (Err (t ∷ ts))) isnt
 
   past_found : (ts : List Token) (a : A) (rest : List Token) → past word reader ts ≡ Ok (a, rest) → Found (past word reader) (after word phrase) ts a rest
   past_found [] a rest e = absurd cc
   past_found (t ∷ ts) a rest e =
-      let h = cond_ok (says word t) (reader ts) (t ∷ ts) (a, rest) e in
+      let h = cond_ok (says word t) (reader ts) (t ∷ ts) (a, rest) (sym (past_by (says word t) ts (t ∷ ts)) ∙ e) in
       let found = reads.found ts a rest h.1 in
       record {
         taken = t ∷ found.taken;
@@ -51,7 +55,7 @@ module _ {A : Type 0} (word : List ℕ) {reader : Reader A} {phrase : Phrase A} 
   past_stuck : (ts bad : List Token) → past word reader ts ≡ Err bad → Stuck (past word reader) (after word phrase) ts bad
   past_stuck [] bad e =
       stuck_here (past word reader) (after word phrase) [] bad _ _ (err_same A [] bad e) past_sample past_fails_nil
-  past_stuck (t ∷ ts) bad e = elim (cond_err (says word t) (reader ts) (t ∷ ts) bad e) [
+  past_stuck (t ∷ ts) bad e = elim (cond_err (says word t) (reader ts) (t ∷ ts) bad (sym (past_by (says word t) ts (t ∷ ts)) ∙ e)) [
     | inl h ↦ (
         let stuck = reads.stuck ts bad h.1 in
         record {

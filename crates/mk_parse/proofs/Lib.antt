@@ -7,3 +7,7 @@ mod Terminals
 mod Indexes
 mod Expressions
 mod Statements
+pub mod Gaps
+pub mod Munching
+pub mod Placing
+pub mod Lexed

@@ -1,8 +1,10 @@
 -- What tokens of the program stand for in a text, and where a text has no further token.
 use Rattle.std.specs.Prelude.{◌≡◌, ℕ, ◌+◌, ◌-◌, ◌≤◌, ◌<◌, ◌⊎◌, Bool, IsTrue, ◌↔◌, List, [], ◌∷◌, ◌++◌, length, take, drop, map, Contains, slice_range, All}
 use Rattle.mk_base.specs.declared.Place.{Place}
-use Rattle.mk_ast.specs.Tokens.{Token as Spelled, IsGap, IsLastGap, IsWord, IsNumber, IsElement, IsToken, BeginsWith, place_of, place_behind, symbols}
+use Rattle.mk_ast.specs.Tokens.{Token as Spelled, IsGap, IsLastGap, IsWord, IsNumber, IsElement, IsToken, BeginsWith, AreTokens, place_of, place_behind, symbols}
 use Rattle.mk_ast.specs.Spells.{NoGapBegins}
+use Rattle.mk_ast.specs.declared.refusal.SourceRefusal.{SourceRefusal}
+use Rattle.mk_ast.specs.declared.refusal.SourceRefusal.TheVariants.{Syntax, Memory}
 use Rattle.mk_parse.specs.declared.token.Token.{Token}
 use Rattle.mk_parse.specs.declared.token.TokenKind.{TokenKind}
 use Rattle.mk_parse.specs.declared.token.TokenKind.TheVariants.{Word, Number, Element, Symbol}
@@ -32,6 +34,21 @@ AreSpans text start (token ∷ tokens) =
 abbrev pub NoTokenBegins : List ℕ → Type 0
 NoTokenBegins here = (word rest : List ℕ) → here ≡ word ++ rest → IsToken word rest → ⊥
 
+-- this is the place at this index into the text
+abbrev pub IsPlaced : List ℕ → ℕ → Place → Type 0
+IsPlaced text index at = (index ≤ length text) × (at ≡ place_behind (take index text))
+
+-- between these indexes is a gap, which may be a last one where the text ends with it
+abbrev pub IsGapBetween : List ℕ → ℕ → ℕ → Type 0
+IsGapBetween text from to =
+    (from ≤ to)
+    × (IsGap (take (to - from) (drop from text)) ⊎ (IsLastGap (take (to - from) (drop from text)) × (drop to text ≡ [])))
+
+-- between these indexes is a token of this kind
+abbrev pub IsTokenBetween : List ℕ → ℕ → TokenKind → ℕ → Type 0
+IsTokenBetween text from kind to =
+    (from < to) × IsOfKind kind (take (to - from) (drop from text)) × IsToken (take (to - from) (drop from text)) (drop to text)
+
 -- Tokens are at the front of the text, as far as tokens go: a gap comes behind them, and then, at this
 -- place, the text ends or no token begins.
 pub record IsLexed (text : List ℕ) (tokens : List Token) (at : Place) (whole : Bool) : Type 0 where
@@ -46,6 +63,13 @@ pub record IsLexed (text : List ℕ) (tokens : List Token) (at : Place) (whole :
   pub within : All (IsWithin text) tokens
   pub spans : AreSpans text 0 tokens
 
+-- these are the tokens of the text, all of them, and it has no others
+pub record AreAllTokens (text : List ℕ) (tokens : List Token) : Type 0 where
+  pub all : AreTokens text (map (seen text) tokens)
+  pub alone : (others : List Spelled) → AreTokens text others → others ≡ map (seen text) tokens
+  pub within : All (IsWithin text) tokens
+  pub spans : AreSpans text 0 tokens
+
 -- the first place in the text where no token begins, and which isn't the end of the text
 pub record IsFirstBad (text : List ℕ) (at : Place) : Type 0 where
   pub tokens : List Spelled
@@ -57,3 +81,10 @@ pub record IsFirstBad (text : List ℕ) (at : Place) : Type 0 where
   pub rest : here ≡ [] → ⊥
   pub stuck : NoTokenBegins here
   pub place : at ≡ place_of text here
+
+-- Why a text has no list of tokens: at that place it goes wrong, and it has no tokens; or memory was
+-- wanted. No other refusal comes.
+abbrev pub IsTokenRefusal : List ℕ → SourceRefusal → Type 0
+IsTokenRefusal text (Syntax at) = IsFirstBad text at × ((tokens : List Spelled) → AreTokens text tokens → ⊥)
+IsTokenRefusal text Memory = Unit {0}
+IsTokenRefusal text _ = ⊥

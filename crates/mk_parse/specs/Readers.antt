@@ -51,10 +51,14 @@ infixr 30 ◌next◌
 abbrev pub ◌next◌ : {A B : Type 0} → Reader A → Reader B → Reader (A × B)
 (first next second) ts = first ts >>= (λ x. second x.1 >>= (λ y. Ok ((x.0, y.0), y.1)))
 
+-- the word or symbol
+abbrev pub expects : List ℕ → Reader (Unit {0})
+expects word [] = Err []
+expects word (t ∷ ts) = if says word t then Ok (tt, ts) else Err (t ∷ ts)
+
 -- the word or symbol, and then the reader
 abbrev pub past : {A : Type 0} → List ℕ → Reader A → Reader A
-past word reader [] = Err []
-past word reader (t ∷ ts) = if says word t then reader ts else Err (t ∷ ts)
+past word reader ts = expects word ts >>= (λ x. reader x.1)
 
 -- no tokens are taken
 abbrev pub skips : {A : Type 0} → A → Reader A
@@ -62,7 +66,7 @@ skips a ts = Ok (a, ts)
 
 -- the reader, and then the word or symbol
 abbrev pub ended : {A : Type 0} → List ℕ → Reader A → Reader A
-ended word reader ts = reader ts >>= (λ x. past word (skips x.0) x.1)
+ended word reader ts = reader ts >>= (λ x. expects word x.1 >>= (λ y. Ok (x.0, y.1)))
 
 -- one reader where the first token passes the test, else the other
 abbrev pub chosen : {A : Type 0} → (Token → Bool) → Reader A → Reader A → Reader A

@@ -1,7 +1,9 @@
 //! Reading source texts: their tokens, and the programs that they spell.
 #![tactic(auto)]
 
+mod lexer;
 mod token;
 mod words;
 
+pub use lexer::tokens;
 pub use token::{Token, TokenKind, TokenList};
