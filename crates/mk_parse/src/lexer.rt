@@ -97,7 +97,7 @@ fn run_length(bytes: &[u8]) -> usize
 }
 
 /// Whether this is a word.
-fn is_word(text: &[u8]) -> bool
+pub(crate) fn is_word(text: &[u8]) -> bool
     ensures { IsTrue result ↔ IsWord text.now }
 {
     let [first, rest @ ..] = text else {

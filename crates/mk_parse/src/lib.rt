@@ -1,6 +1,7 @@
 //! Reading source texts: their tokens, and the programs that they spell.
 #![tactic(auto)]
 
+mod cursor;
 mod lexer;
 mod token;
 mod words;
