@@ -18,11 +18,12 @@ abbrev pub NoGapBegins : List ℕ → Type 0
 NoGapBegins [] = Unit {0}
 NoGapBegins (b ∷ bs) = (is_blank b || b == 35) ≡ false
 
--- no program goes on with what stands here, behind these tokens: at the end of the text these are no
--- program, and else no token stands here, or none that a program goes on with
-abbrev pub NothingFits : List Token → List ℕ → Type 0
-NothingFits tokens [] = (p : Program) → program tokens p → ⊥
-NothingFits tokens (b ∷ bs) = (t : Token) (rest : List ℕ) → b ∷ bs ≡ t.text ++ rest → IsToken t.text rest → CanGoOn (tokens ++ t ∷ []) → ⊥
+-- no program goes on with what stands at this place, behind these tokens: at the end of the text these
+-- are no program, and else no token stands there, or none that a program goes on with
+abbrev pub NothingFits : Place → List Token → List ℕ → Type 0
+NothingFits at tokens [] = (p : Program) → program tokens p → ⊥
+NothingFits at tokens (b ∷ bs) =
+    (t : Token) (rest : List ℕ) → b ∷ bs ≡ t.text ++ rest → IsToken t.text rest → t.at ≡ at → CanGoOn (tokens ++ t ∷ []) → ⊥
 
 -- The first place in the text where no program can go on: programs can go on with the tokens before
 -- it, and not with what stands there.
@@ -35,4 +36,4 @@ pub record IsRefusedAt (text : List ℕ) (at : Place) : Type 0 where
   pub begins : NoGapBegins here
   pub place : at ≡ place_of text here
   pub goes_on : CanGoOn tokens
-  pub stuck : NothingFits tokens here
+  pub stuck : NothingFits at tokens here

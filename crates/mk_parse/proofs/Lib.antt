@@ -4,9 +4,10 @@ mod Choices
 mod Many
 pub mod Decoding
 mod Terminals
-mod Indexes
-mod Expressions
-mod Statements
+mod Loops
+mod IndexPhrases
+mod ExpressionPhrases
+mod StatementPhrases
 pub mod Gaps
 pub mod Munching
 pub mod Placing

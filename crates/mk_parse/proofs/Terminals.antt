@@ -1,6 +1,6 @@
 -- The tests of names, numbers, sizes and elements, and how their first bytes tell them apart.
-use Rattle.std.proofs.Common.{◌≡◌, ◌≢◌, ℕ, zero, suc, ◌+◌, ◌*◌, ◌≤◌, ◌<◌, Bool, true, false, ◌||◌, ◌⊎◌, inl, inr, List, [], ◌∷◌, ◌++◌, length, get_or, Option, Some, None, nat_lt, refl, sym, ap, subst, ◌∙◌, arith, cond}
-use Rattle.std.specs.Prelude.{codes, decimal, bytes_eq, Contains, IsTrue, ◌&&◌, not}
+use Rattle.std.proofs.Common.{◌≡◌, ◌≢◌, ℕ, zero, suc, ◌+◌, ◌*◌, ◌≤◌, ◌<◌, Bool, true, false, ◌||◌, ◌⊎◌, inl, inr, List, [], ◌∷◌, ◌++◌, length, get_or, Option, Some, None, Ok, Err, nat_lt, refl, sym, ap, subst, ◌∙◌, arith, cond}
+use Rattle.std.specs.Prelude.{codes, decimal, bytes_eq, Contains, IsTrue, ◌↔◌, MatchOption, ◌&&◌, not}
 use Rattle.std.specs.List.{AllByRecursion}
 use Rattle.std.specs.Char.{is_ascii_digit}
 use Rattle.std.specs.Str.{all_ascii_digits}
@@ -8,8 +8,10 @@ use Rattle.std.proofs.lemmas.Bool.{and_parts, ltb-true, lt-ltb, false≢true}
 use Rattle.std.proofs.lemmas.Slice.Eq.{bytes_eq-Decides}
 use Rattle.mk_base.specs.declared.Place.{Place}
 use Rattle.mk_ast.specs.Tokens.{Token, begins_word, goes_on, IsWord, IsName, reserved, IsNumber, IsElement, hex_value}
-use Rattle.mk_parse.specs.Readers.{says}
-use Rattle.mk_parse.specs.Reading.{all_go_on, is_word, is_among, is_name, where_true, name_of, last_below, number_of, positive, size_of, of_digits, element_text, with_place, element_of, gives}
+use Rattle.mk_parse.specs.Readers.{says, starts, given, takes}
+use Rattle.mk_parse.proofs.Laws.{read, refused}
+use Rattle.mk_parse.specs.Reading.{all_go_on, is_word, is_among, is_name_text, is_name, where_true, name_of, last_below, number_text, number_of, positive, size_of, of_digits, element_text, with_place, element_of, gives}
+use Rattle.mk_parse.proofs.Joined.{token_of}
 use Rattle.mk_parse.proofs.Decoding.{number_parts, number_unique, element_unique}
 
 pub some_is : {A : Type 0} {a b : A} → Some a ≡ Some b → a ≡ b
@@ -110,13 +112,13 @@ below_complete (suc k) p n is lt only =
     by false e others = others (λ same. false≢true (sym e ∙ ap p same ∙ is))
 
 pub number_sound : (t : Token) (n : ℕ) → number_of t ≡ Some n → IsNumber n t.text
-unfolding number_of
+unfolding number_text
 number_sound t n e =
     let h = below_sound 65536 (λ n. bytes_eq t.text (decimal n)) n e in
     ((bytes_eq-Decides t.text (decimal n)).0 h.0, omega (arith, h.1))
 
 pub number_complete : (t : Token) (n : ℕ) → IsNumber n t.text → number_of t ≡ Some n
-unfolding number_of
+unfolding number_text
 number_complete t n h =
     below_complete 65536 (λ n. bytes_eq t.text (decimal n)) n ((bytes_eq-Decides t.text (decimal n)).1 h.0) (omega (arith, h.1))
         (λ m below e. number_unique m n t.text ((bytes_eq-Decides t.text (decimal m)).0 e, omega (arith, below)) h)
@@ -207,3 +209,56 @@ gives_some value t e = gives_by value t (value t) refl e
 
 pub some_gives : {A : Type 0} (value : Token → Option A) (t : Token) (a : A) → value t ≡ Some a → gives value t ≡ true
 some_gives value t a e = ap (λ (o : Option _). elim o as (λ _. Bool) [ None ↦ false | (Some a) ↦ true ]) e
+
+-- ---- what the tests of the code answer
+
+pub number_by : (o : Option ℕ) (text : List ℕ) → MatchOption o ((n : ℕ) → IsNumber n text → ⊥) (λ n. IsNumber n text) → o ≡ number_text text
+number_by (Some n) text h = sym (number_complete (token_of text) n h)
+number_by None text h = by (number_text text) refl
+  where
+    by : (o : Option ℕ) → number_text text ≡ o → None ≡ o
+    by None e = refl
+    by (Some n) e = absurd (h n (number_sound (token_of text) n e))
+
+pub element_by : (o : Option ℕ) (text : List ℕ) → MatchOption o ((v : ℕ) → IsElement v text → ⊥) (λ v. IsElement v text) → o ≡ element_text text
+element_by (Some v) text h = sym (element_text_complete text v h)
+element_by None text h = by (element_text text) refl
+  where
+    by : (o : Option ℕ) → element_text text ≡ o → None ≡ o
+    by None e = refl
+    by (Some v) e = absurd (h v (element_text_sound text v e))
+
+same_truth : (a b : Bool) → (a ≡ true → b ≡ true) → (b ≡ true → a ≡ true) → a ≡ b
+same_truth true b to from = sym (to refl)
+same_truth false true to from = from refl
+same_truth false false to from = refl
+
+pub word_by : (r : Bool) (text : List ℕ) → IsTrue r ↔ IsWord text → r ≡ is_word text
+word_by r text h = same_truth r (is_word text) (λ e. word_complete text (h.0 e)) (λ e. h.1 (word_sound text e))
+
+pub reserved_by : (r : Bool) (text : List ℕ) → IsTrue r ↔ Contains reserved text → r ≡ is_among reserved text
+reserved_by r text h = same_truth r (is_among reserved text) (λ e. among_complete reserved text (h.0 e)) (λ e. h.1 (among_sound reserved text e))
+
+pub short_word : (text : List ℕ) → IsWord text → length text ≤ 64
+short_word [] h = absurd h
+short_word (b ∷ bs) h = omega (arith, h.2)
+
+-- ---- a name at the head of a list
+
+pub name_starts : (ts rest : List Token) (t : Token) (b : Bool) → ts ≡ t ∷ rest → b ≡ is_name_text t.text → b ≡ starts is_name ts
+unfolding is_name
+name_starts ts rest t b is e = e ∙ ap (starts is_name) (sym is)
+
+pub name_refused : (ts rest : List Token) (t : Token) → ts ≡ t ∷ rest → false ≡ is_name_text t.text → takes name_of ts ≡ Err ts
+unfolding is_name
+name_refused ts rest t is e =
+    ap (takes name_of) is ∙ ap (λ (b : Bool). given t rest (where_true b (t.text, t.at))) (sym e) ∙ ap (λ (l : List Token). refused (List ℕ × Place) l) (sym is)
+
+pub name_taken : (ts rest others : List Token) (t u : Token) → ts ≡ t ∷ rest → true ≡ is_name_text t.text → ts ≡ u ∷ others → takes name_of ts ≡ Ok ((t.text, t.at), others)
+unfolding is_name
+name_taken ts rest others t u is e also =
+    let same : rest ≡ others = tail_is t u rest others (sym is ∙ also) in
+    ap (takes name_of) is ∙ ap (λ (b : Bool). given t rest (where_true b (t.text, t.at))) (sym e) ∙ ap (λ (l : List Token). read (List ℕ × Place) ((t.text, t.at), l)) same
+  where
+    tail_is : (t u : Token) (rest others : List Token) → t ∷ rest ≡ u ∷ others → rest ≡ others
+    tail_is t u rest others e = cc

@@ -36,9 +36,12 @@ unfoldable pub is_among : List (List ℕ) → List ℕ → Bool
 is_among [] text = false
 is_among (w ∷ ws) text = bytes_eq w text || is_among ws text
 
+abbrev pub is_name_text : List ℕ → Bool
+is_name_text text = is_word text && not (is_among reserved text)
+
 -- the token is a name
 unfoldable pub is_name : Token → Bool
-is_name t = is_word t.text && not (is_among reserved t.text)
+is_name t = is_name_text t.text
 
 abbrev pub where_true : {A : Type 0} → Bool → A → Option A
 where_true b a = if b then Some a else None
@@ -51,8 +54,11 @@ unfoldable pub last_below : ℕ → (ℕ → Bool) → Option ℕ
 last_below zero p = None
 last_below (suc n) p = if p n then Some n else last_below n p
 
-unfoldable pub number_of : Token → Option ℕ
-number_of t = last_below 65536 (λ n. bytes_eq t.text (decimal n))
+unfoldable pub number_text : List ℕ → Option ℕ
+number_text text = last_below 65536 (λ n. bytes_eq text (decimal n))
+
+abbrev pub number_of : Token → Option ℕ
+number_of t = number_text t.text
 
 abbrev pub positive : Option ℕ → Option ℕ
 positive None = None

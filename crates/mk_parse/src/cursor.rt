@@ -1,15 +1,15 @@
 //! A place in the list of a text's tokens.
 
-ghost use Rattle.std.specs.Prelude.{◌≡◌, ◌≤◌, [], ◌∷◌, length, take, List, MatchOption, All};
+ghost use Rattle.std.specs.Prelude.{◌≡◌, ◌≤◌, [], ◌∷◌, length, take, List, MatchOption, All, IsTrue};
 ghost use Rattle.mk_ast.specs.Tokens.{Token as Spelled};
 ghost use Rattle.mk_parse.specs.Lexing.{IsWithin};
 ghost use Rattle.mk_parse.specs.Readers.{starts, says, takes, expects};
-ghost use Rattle.mk_parse.specs.Reading.{is_name, gives, name_of, number_of, size_of, element_of};
+ghost use Rattle.mk_parse.specs.Reading.{is_name, is_name_text, number_text, positive, gives, name_of, number_of, size_of, element_of};
 ghost use Rattle.mk_parse.specs.Answers.{Answers, seen_tokens};
 
 use crate::lexer::is_word;
 use crate::token::Token;
-use crate::words::{element, is_reserved, number};
+use crate::words::{element_value, is_reserved, number_value};
 use mk_ast::Name;
 use mk_base::{Items, Memory, Place};
 use std::alloc::{AllocError, Global};
@@ -43,6 +43,24 @@ impl From<AllocError> for Stop {
 
     fn from(_error: AllocError) -> Stop {
         Stop::Memory
+    }
+}
+
+/// Whether this is a name.
+fn is_name(text: &[u8]) -> bool
+    ensures name { result ≡ is_name_text text.now }
+    ensures short { IsTrue result → length text.now ≤ 64 }
+{
+    is_word(text) && !is_reserved(text)
+}
+
+/// The size that this text is.
+fn size_value(text: &[u8]) -> Option<u32>
+    ensures { result ≡ positive (number_text text.now) }
+{
+    match number_value(text) {
+        Some(0) | None => None,
+        Some(value) => Some(value),
     }
 }
 
@@ -113,5 +131,103 @@ impl<'a> Cursor<'a> {
             Some((bytes, _)) => bytes == word,
             None => false,
         }
+    }
+
+    /// Whether the next token is a name.
+    pub(crate) fn next_is_name(&self) -> bool
+        ensures { result ≡ starts is_name self.now }
+    {
+        match self.first() {
+            Some((bytes, _)) => is_name(bytes),
+            None => false,
+        }
+    }
+
+    /// Whether the next token is a number.
+    pub(crate) fn next_is_number(&self) -> bool
+        ensures { result ≡ starts (gives number_of) self.now }
+    {
+        match self.first() {
+            Some((bytes, _)) => number_value(bytes).is_some(),
+            None => false,
+        }
+    }
+
+    /// Whether the next token is an element.
+    pub(crate) fn next_is_element(&self) -> bool
+        ensures { result ≡ starts (gives element_of) self.now }
+    {
+        match self.first() {
+            Some((bytes, _)) => element_value(bytes).is_some(),
+            None => false,
+        }
+    }
+
+    /// Takes this word or symbol.
+    pub(crate) fn expect(&mut self, word: &[u8]) -> Result<(), Stop>
+        ensures { Answers result self.new (expects word.now self.old) }
+    {
+        if !self.next_is(word) {
+            return Err(Stop::Here);
+        }
+        self.skip();
+        Ok(())
+    }
+
+    /// Takes a name, with its place.
+    pub(crate) fn name(&mut self) -> Result<(Name, Place), Stop>
+        ensures { Answers result self.new (takes name_of self.old) }
+    {
+        let Some((bytes, at)) = self.first() else {
+            return Err(Stop::Here);
+        };
+        if !is_name(bytes) {
+            return Err(Stop::Here);
+        }
+        let name = Items::from_vec(Vec::from_slice(self.alloc, bytes)?);
+        self.skip();
+        Ok((name, at))
+    }
+
+    /// Takes a number.
+    pub(crate) fn number(&mut self) -> Result<u32, Stop>
+        ensures { Answers result self.new (takes number_of self.old) }
+    {
+        let Some((bytes, _)) = self.first() else {
+            return Err(Stop::Here);
+        };
+        let Some(value) = number_value(bytes) else {
+            return Err(Stop::Here);
+        };
+        self.skip();
+        Ok(value)
+    }
+
+    /// Takes a size, which is a number other than 0.
+    pub(crate) fn size(&mut self) -> Result<u32, Stop>
+        ensures { Answers result self.new (takes size_of self.old) }
+    {
+        let Some((bytes, _)) = self.first() else {
+            return Err(Stop::Here);
+        };
+        let Some(value) = size_value(bytes) else {
+            return Err(Stop::Here);
+        };
+        self.skip();
+        Ok(value)
+    }
+
+    /// Takes an element, with its place.
+    pub(crate) fn element(&mut self) -> Result<(u8, Place), Stop>
+        ensures { Answers result self.new (takes element_of self.old) }
+    {
+        let Some((bytes, at)) = self.first() else {
+            return Err(Stop::Here);
+        };
+        let Some(value) = element_value(bytes) else {
+            return Err(Stop::Here);
+        };
+        self.skip();
+        Ok((value, at))
     }
 }

@@ -2,6 +2,8 @@
 #![tactic(auto)]
 
 mod cursor;
+mod expressions;
+mod indexes;
 mod lexer;
 mod token;
 mod words;

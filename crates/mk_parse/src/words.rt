@@ -2,6 +2,7 @@
 
 ghost use Rattle.std.specs.Prelude.{◌≡◌, ℕ, ◌≤◌, ◌<◌, ◌↔◌, length, slice_index, IfSome, IsTrue, MatchOption, Contains};
 ghost use Rattle.mk_ast.specs.Tokens.{hex_value, reserved, IsElement, IsNumber};
+ghost use Rattle.mk_parse.specs.Reading.{number_text, element_text};
 
 /// Whether there is a digit, and `0` is the first one only where it is the only one.
 fn leads(digits: &[u8]) -> bool
@@ -70,6 +71,20 @@ pub(crate) fn element(text: &[u8]) -> Option<u8>
     let high = hex_value(*first)?;
     let low = hex_value(*second)?;
     Some(16 * high + low)
+}
+
+/// The number that this text is, as the reader of numbers gives it.
+pub(crate) fn number_value(text: &[u8]) -> Option<u32>
+    ensures { result ≡ number_text text.now }
+{
+    number(text)
+}
+
+/// The element that this text is, as the reader of elements gives it.
+pub(crate) fn element_value(text: &[u8]) -> Option<u8>
+    ensures { result ≡ element_text text.now }
+{
+    element(text)
 }
 
 /// Whether this word is reserved.

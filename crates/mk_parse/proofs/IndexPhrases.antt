@@ -1,5 +1,5 @@
 -- The readers of indexes read the phrases of indexes.
-use Rattle.std.proofs.Common.{◌≡◌, ◌≢◌, ℕ, zero, suc, ◌+◌, ◌≤◌, ◌<◌, Bool, true, false, ◌||◌, ◌⊎◌, inl, inr, List, [], ◌∷◌, ◌++◌, Option, Some, None, refl, sym, ap, subst, ◌∙◌, arith}
+use Rattle.std.proofs.Common.{◌≡◌, ◌≢◌, ℕ, zero, suc, ◌+◌, ◌≤◌, ◌<◌, Bool, true, false, ◌||◌, ◌⊎◌, inl, inr, List, [], ◌∷◌, ◌++◌, length, Option, Some, None, Ok, Err, refl, sym, ap, subst, ◌∙◌, arith}
 use Rattle.std.specs.Prelude.{codes, decimal, bytes_eq, ◌&&◌, not}
 use Rattle.std.specs.Char.{is_ascii_digit}
 use Rattle.std.proofs.lemmas.Bool.{false≢true, or_parts}
@@ -14,11 +14,12 @@ use Rattle.mk_ast.specs.Tokens.{Token, begins_word, IsName, IsNumber, reserved}
 use Rattle.mk_ast.specs.Phrases.{Phrase, nothing, one, made, ◌or◌, ◌and◌, after, until, optional, many, separated, several}
 use Rattle.mk_ast.specs.Grammar.{name, number, size, index_factor, index_link, chained, index_product, index_sum_with, index_sum}
 use Rattle.mk_parse.specs.Readers.{Reader, starts, says, never, fails, takes, makes, ◌next◌, past, ended, chosen, every, parted}
-use Rattle.mk_parse.specs.Reading.{is_word, is_among, all_go_on, is_name, name_of, number_of, size_of, gives, index_factor_by, index_link_by, begins_link, index_product_by, index_sum_by, index_sum_at}
+use Rattle.mk_parse.specs.Reading.{is_word, is_among, all_go_on, is_name, name_of, number_of, size_of, gives, index_factor_by, index_link_by, begins_link, index_product_by, index_sum_by, index_sum_at, index_inner}
 use Rattle.mk_parse.proofs.Laws.{Stops, Reads, BeginsBy, reads_token, reads_made, says_is, is_says}
 use Rattle.mk_parse.proofs.Joined.{token_of, reads_after, after_begins, reads_and}
 use Rattle.mk_parse.proofs.Choices.{reads_same, reads_until, reads_or, reads_alone, stops_never, made_begins, one_begins, apart_by}
 use Rattle.mk_parse.proofs.Many.{reads_many, reads_separated}
+use Rattle.mk_parse.proofs.Loops.{shorter}
 use Rattle.mk_parse.proofs.Terminals.{name_sound, name_complete, name_of_sound, name_of_complete, number_sound, number_complete, size_sound, size_complete, first_byte, name_begins, number_begins, gives_some, some_gives}
 
 -- ---- tokens that exclude one another
@@ -168,3 +169,42 @@ reads_index_sum (suc brackets) =
             (λ t e. refl))
         (λ back i rest h. apart_by (gives number_of) (says (codes "(")) _ (after_begins (codes "(") (until (codes ")") (index_sum brackets)))
             (λ t e. word_no_number (codes "(") t (says_is (codes "(") t e) refl) back i rest h)
+
+-- ---- by the number of brackets that may still be opened
+
+abbrev inner_phrase : ℕ → Phrase Index
+inner_phrase zero = nothing
+inner_phrase (suc brackets) = after (codes "(") (until (codes ")") (index_sum brackets))
+
+opened_at : (brackets : ℕ) → Reads (past (codes "(") (ended (codes ")") (index_sum_at brackets))) (inner_phrase (suc brackets)) never
+opened_at brackets = reads_after (codes "(") (reads_until (codes ")") (reads_index_sum brackets) closing_stops)
+
+others_at : (brackets : ℕ) → Reads (chosen is_name variable (index_inner brackets)) (variable_phrase or inner_phrase brackets) never
+others_at zero = reads_same (reads_alone is_name never reads_variable variable_is (λ t e. refl)) none_to none_from
+others_at (suc brackets) =
+    reads_or is_name never reads_variable variable_is (λ t e. refl) (opened_at brackets)
+        (λ back i rest h s. apart_by is_name (says (codes "(")) _ (after_begins (codes "(") (until (codes ")") (index_sum brackets))) open_no_name back i rest h)
+        (λ t e. refl)
+
+apart_at : (brackets : ℕ) (back : List Token) (i : Index) (rest : List Token) → inner_phrase brackets back i → starts (gives number_of) (back ++ rest) ≡ false
+apart_at zero back i rest h = absurd h
+apart_at (suc brackets) back i rest h =
+    apart_by (gives number_of) (says (codes "(")) _ (after_begins (codes "(") (until (codes ")") (index_sum brackets)))
+        (λ t e. word_no_number (codes "(") t (says_is (codes "(") t e) refl) back i rest h
+
+-- a link takes tokens, and so does what is added
+pub link_shorter : (brackets : ℕ) (ts : List Token) (l : Link) (rest : List Token) → index_link_by (index_inner brackets) ts ≡ Ok (l, rest) → length rest < length ts
+link_shorter brackets ts l rest e =
+    shorter begins_link (reads_link (index_inner brackets) (inner_phrase brackets) (others_at brackets) (apart_at brackets))
+        (link_is (index_inner brackets) (inner_phrase brackets) (others_at brackets) (apart_at brackets)) ts l rest e
+
+pub added_shorter : (brackets : ℕ) (ts : List Token) (i : Index) (rest : List Token) → past (codes "+") (index_product_by (index_inner brackets)) ts ≡ Ok (i, rest) → length rest < length ts
+added_shorter brackets ts i rest e =
+    shorter (says (codes "+")) (reads_after (codes "+") (reads_index_product (index_inner brackets) (inner_phrase brackets) (others_at brackets) (apart_at brackets)))
+        (after_begins (codes "+") (index_product (inner_phrase brackets))) ts i rest e
+
+-- the reader of sums, by what stands in parentheses
+pub index_sum_is : (brackets : ℕ) (ts : List Token) → index_sum_at brackets ts ≡ index_sum_by (index_inner brackets) ts
+unfolding index_sum_at
+index_sum_is zero ts = refl
+index_sum_is (suc brackets) ts = refl

@@ -24,8 +24,8 @@ use Rattle.mk_parse.proofs.Joined.{token_of, reads_after, after_begins, reads_an
 use Rattle.mk_parse.proofs.Choices.{reads_same, reads_until, reads_or, reads_closed, stops_never, made_begins, and_begins, one_begins, apart_by}
 use Rattle.mk_parse.proofs.Many.{reads_many, reads_separated, reads_optional}
 use Rattle.mk_parse.proofs.Terminals.{some_is}
-use Rattle.mk_parse.proofs.Indexes.{not_true, says_other, no_name, name_says, reads_name, name_is, reads_number, reads_size}
-use Rattle.mk_parse.proofs.Expressions.{reads_reference, reference_is, reads_sum, semicolon_stops, reads_element}
+use Rattle.mk_parse.proofs.IndexPhrases.{not_true, says_other, no_name, name_says, reads_name, name_is, reads_number, reads_size}
+use Rattle.mk_parse.proofs.ExpressionPhrases.{reads_reference, reference_is, reads_sum, semicolon_stops, reads_element}
 
 -- ---- statements
 

@@ -1,5 +1,5 @@
 -- The readers of expressions read the phrases of expressions.
-use Rattle.std.proofs.Common.{◌≡◌, ◌≢◌, ℕ, zero, suc, ◌+◌, ◌≤◌, ◌<◌, Bool, true, false, ◌||◌, ◌⊎◌, inl, inr, List, [], ◌∷◌, ◌++◌, Option, Some, None, refl, sym, ap, subst, ◌∙◌, arith}
+use Rattle.std.proofs.Common.{◌≡◌, ◌≢◌, ℕ, zero, suc, ◌+◌, ◌≤◌, ◌<◌, Bool, true, false, ◌||◌, ◌⊎◌, inl, inr, List, [], ◌∷◌, ◌++◌, length, Option, Some, None, Ok, Err, refl, sym, ap, subst, ◌∙◌, arith}
 use Rattle.std.specs.Prelude.{codes, bytes_eq, ◌&&◌, not}
 use Rattle.std.proofs.lemmas.Bool.{false≢true, or_parts, or_cases}
 use Rattle.mk_base.specs.declared.Place.{Place}
@@ -11,13 +11,14 @@ use Rattle.mk_ast.specs.Tokens.{Token, begins_word, IsName, IsElement, reserved}
 use Rattle.mk_ast.specs.Phrases.{Phrase, nothing, one, made, ◌or◌, ◌and◌, after, until, optional, many, separated, several}
 use Rattle.mk_ast.specs.Grammar.{name, element, bracketed, index_sum, reference, factor, product, sum_with, sum}
 use Rattle.mk_parse.specs.Readers.{Reader, starts, says, never, fails, skips, takes, makes, ◌next◌, past, ended, chosen, perhaps, every, parted}
-use Rattle.mk_parse.specs.Reading.{is_word, is_among, all_go_on, is_name, name_of, element_of, element_text, gives, guarded, index_sum_at, index_brackets, index_part, reference_of, reference_at, after_name, named, factor_by, product_by, sum_by, sum_at}
+use Rattle.mk_parse.specs.Reading.{is_word, is_among, all_go_on, is_name, name_of, element_of, element_text, gives, guarded, index_sum_at, index_brackets, index_part, reference_of, reference_at, after_name, named, factor_by, product_by, sum_by, sum_at, sum_inner}
 use Rattle.mk_parse.proofs.Laws.{Stops, Reads, BeginsBy, reads_token, reads_made, says_is, is_says}
 use Rattle.mk_parse.proofs.Joined.{token_of, reads_after, after_begins, reads_and}
 use Rattle.mk_parse.proofs.Choices.{empty, reads_empty, reads_same, reads_by, reads_before, reads_until, reads_or, reads_alone, reads_closed, stops_never, made_begins, and_begins, one_begins, apart_by}
+use Rattle.mk_parse.proofs.Loops.{shorter}
 use Rattle.mk_parse.proofs.Many.{reads_many, reads_separated, reads_optional}
 use Rattle.mk_parse.proofs.Terminals.{name_sound, name_complete, element_sound, element_complete, first_byte, name_begins, element_begins, gives_some, some_gives}
-use Rattle.mk_parse.proofs.Indexes.{not_true, says_other, no_name, name_says, reads_name, name_is, reads_index_sum, square_stops, open_no_name}
+use Rattle.mk_parse.proofs.IndexPhrases.{not_true, says_other, no_name, name_says, reads_name, name_is, reads_index_sum, square_stops, open_no_name}
 
 -- ---- elements
 
@@ -312,3 +313,26 @@ reads_sum (suc brackets) =
         reads_after (codes "(") (reads_until (codes ")") (reads_sum brackets) closing_stops) in
     reads_sum_by (suc brackets) (past (codes "(") (ended (codes ")") (sum_at brackets))) (inner_phrase (suc brackets))
         (reads_factor_open brackets (past (codes "(") (ended (codes ")") (sum_at brackets))) opened)
+
+-- ---- by the number of brackets that may still be opened
+
+pub reads_factor : (brackets : ℕ) → Reads (factor_by brackets (sum_inner brackets)) (factor brackets (inner_phrase brackets)) opens
+reads_factor zero = reads_factor_closed
+reads_factor (suc brackets) =
+    reads_factor_open brackets (past (codes "(") (ended (codes ")") (sum_at brackets))) (reads_after (codes "(") (reads_until (codes ")") (reads_sum brackets) closing_stops))
+
+-- what is multiplied or added takes tokens
+pub multiplied_shorter : (brackets : ℕ) (ts : List Token) (e : Expr) (rest : List Token) → past (codes "*") (factor_by brackets (sum_inner brackets)) ts ≡ Ok (e, rest) → length rest < length ts
+multiplied_shorter brackets ts e rest is =
+    shorter (says (codes "*")) (reads_after (codes "*") (reads_factor brackets)) (after_begins (codes "*") (factor brackets (inner_phrase brackets))) ts e rest is
+
+pub added_shorter : (brackets : ℕ) (ts : List Token) (e : Expr) (rest : List Token) → past (codes "+") (product_by brackets (sum_inner brackets)) ts ≡ Ok (e, rest) → length rest < length ts
+added_shorter brackets ts e rest is =
+    shorter (says (codes "+")) (reads_after (codes "+") (reads_product brackets (sum_inner brackets) (inner_phrase brackets) (reads_factor brackets)))
+        (after_begins (codes "+") (product brackets (inner_phrase brackets))) ts e rest is
+
+-- the reader of sums, by what stands in parentheses
+pub sum_is : (brackets : ℕ) (ts : List Token) → sum_at brackets ts ≡ sum_by brackets (sum_inner brackets) ts
+unfolding sum_at
+sum_is zero ts = refl
+sum_is (suc brackets) ts = refl
