@@ -189,6 +189,12 @@ statement_at (suc brackets) =
             (heading_by next past (codes "{") (ended (codes "}") (every begins_statement (statement_at brackets)))))
         (assignment_at (suc brackets))
 
+abbrev pub loop_at : ℕ → Reader Stmt
+loop_at zero = fails
+loop_at (suc brackets) =
+    makes (λ x. stmt.Loop x.0.0.0 x.0.0.1 x.0.1.0 x.0.1.1 x.1)
+        (heading_by next past (codes "{") (ended (codes "}") (every begins_statement (statement_at brackets))))
+
 -- ---- declarations and programs
 
 abbrev pub plain_class : Token → Option Class
@@ -205,10 +211,16 @@ local_class t =
 abbrev pub class_by : Reader Class
 class_by = chosen (says (codes "local")) (past (codes "local") (takes local_class)) (takes plain_class)
 
+abbrev pub image_by : Reader ℕ
+image_by = makes (λ x. x.0) (takes element_of)
+
+abbrev pub images_by : Reader (List ℕ)
+images_by = parted (codes ",") image_by
+
 abbrev pub map_by : Reader Decl
 map_by =
     makes (λ x. record { name = x.0.0; at = x.0.1; what = what.Map x.1 })
-        (past (codes "map") (takes name_of next past (codes "=") (ended (codes ";") (parted (codes ",") (makes (λ x. x.0) (takes element_of))))))
+        (past (codes "map") (takes name_of next past (codes "=") (ended (codes ";") images_by)))
 
 abbrev pub size_part : Reader (Option ℕ)
 size_part = perhaps (says (codes "[")) (past (codes "[") (ended (codes "]") (takes size_of)))

@@ -2,9 +2,11 @@
 #![tactic(auto)]
 
 mod cursor;
+mod declarations;
 mod expressions;
 mod indexes;
 mod lexer;
+mod statements;
 mod token;
 mod words;
 
