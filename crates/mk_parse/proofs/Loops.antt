@@ -4,7 +4,7 @@ use Rattle.std.specs.Result.{IsErrAnd}
 use Rattle.std.proofs.lemmas.List.{append-nil}
 use Rattle.mk_ast.specs.Tokens.{Token}
 use Rattle.mk_ast.specs.Phrases.{Phrase, several}
-use Rattle.mk_parse.specs.Readers.{Reading, Reader, ◌>>=◌, starts, says, takes, makes, ◌next◌, expects, past, ended, every, repeats, parted}
+use Rattle.mk_parse.specs.Readers.{Reading, Reader, ◌>>=◌, starts, says, takes, makes, ◌next◌, expects, past, ended, chosen, every, repeats, parted}
 use Rattle.mk_parse.specs.declared.cursor.Stop.{Stop}
 use Rattle.mk_parse.specs.declared.cursor.Stop.TheVariants.{Here, Memory}
 use Rattle.mk_parse.specs.Answers.{Answers}
@@ -97,6 +97,20 @@ pub passed_on : {A B : Type 0} (stop : Stop) (new : List Token) (first : Reading
 passed_on Here new first total stuck h = stuck new h
 passed_on Memory new first total stuck h = tt
 
+-- ---- the first value, and the others
+
+module _ {A : Type 0} (symbol : List ℕ) (reader : Reader A) where
+  read_on : (a : A) (r : Reading (List A)) → ((r >>= (λ y. read (A × List A) ((a, y.0), y.1))) >>= (λ z. read (List A) (z.0.0 ∷ z.0.1, z.1))) ≡ (r >>= (λ y. read (List A) (a ∷ y.0, y.1)))
+  read_on a (Ok x) = refl
+  read_on a (Err bad) = refl
+
+  -- the others behind the first
+  pub parted_is : (ts : List Token) (a : A) (mid : List Token) → reader ts ≡ Ok (a, mid)
+      → parted symbol reader ts ≡ makes (λ xs. a ∷ xs) (every (says symbol) (past symbol reader)) mid
+  parted_is ts a mid e =
+      ap (λ (r : Reading A). (r >>= (λ x. every (says symbol) (past symbol reader) x.1 >>= (λ y. read (A × List A) ((x.0, y.0), y.1)))) >>= (λ z. read (List A) (z.0.0 ∷ z.0.1, z.1))) e
+      ∙ read_on a (every (says symbol) (past symbol reader) mid)
+
 -- ---- sums and products: one value as it is, or several
 
 module _ {A : Type 0} (f : List A → A) (symbol : List ℕ) (reader : Reader A) where
@@ -112,15 +126,11 @@ module _ {A : Type 0} (f : List A → A) (symbol : List ℕ) (reader : Reader A)
   pub several_stuck : (ts bad : List Token) → reader ts ≡ Err bad → makes (several f) (parted symbol reader) ts ≡ Err bad
   several_stuck ts bad e = several_by (reader ts) ∙ ap (λ (r : Reading A). r >>= whole) e
 
-  read_on : (a : A) (r : Reading (List A)) → ((r >>= (λ y. read (A × List A) ((a, y.0), y.1))) >>= (λ z. read (List A) (z.0.0 ∷ z.0.1, z.1))) ≡ (r >>= (λ y. read (List A) (a ∷ y.0, y.1)))
-  read_on a (Ok x) = refl
-  read_on a (Err bad) = refl
-
   several_is : (ts : List Token) (a : A) (mid : List Token) → reader ts ≡ Ok (a, mid)
       → makes (several f) (parted symbol reader) ts ≡ (makes (λ xs. a ∷ xs) (every (says symbol) (past symbol reader)) mid >>= (λ w. read A (several f w.0, w.1)))
   several_is ts a mid e =
       several_by (reader ts) ∙ ap (λ (r : Reading A). r >>= whole) e
-      ∙ ap (λ (r : Reading (List A)). r >>= (λ w. read A (several f w.0, w.1))) (read_on a (every (says symbol) (past symbol reader) mid))
+      ∙ ap (λ (r : Reading (List A)). r >>= (λ w. read A (several f w.0, w.1))) (read_on symbol reader a (every (says symbol) (past symbol reader) mid))
 
   pub several_later : (ts : List Token) (a : A) (mid bad : List Token) → reader ts ≡ Ok (a, mid)
       → makes (λ xs. a ∷ xs) (every (says symbol) (past symbol reader)) mid ≡ Err bad → makes (several f) (parted symbol reader) ts ≡ Err bad
@@ -159,3 +169,10 @@ pub passed : {A B : Type 0} (stop : Stop) (r : Result B Stop) (new : List Token)
 passed stop (Ok b) new first total is stuck h = absurd is
 passed stop (Err y) new first total is stuck h =
     subst (λ (s : Stop). Answers (Err s) new total) (sym is) (passed_on stop new first total stuck h)
+
+-- the reader that a test chose
+pub chosen_first : {A : Type 0} (test : Token → Bool) (first second : Reader A) (ts : List Token) (b : Bool) → b ≡ starts test ts → b ≡ true → chosen test first second ts ≡ first ts
+chosen_first test first second ts b is e = ap (λ (c : Bool). cond c (first ts) (second ts)) (sym is ∙ e)
+
+pub chosen_second : {A : Type 0} (test : Token → Bool) (first second : Reader A) (ts : List Token) (b : Bool) → b ≡ starts test ts → b ≡ false → chosen test first second ts ≡ second ts
+chosen_second test first second ts b is e = ap (λ (c : Bool). cond c (first ts) (second ts)) (sym is ∙ e)

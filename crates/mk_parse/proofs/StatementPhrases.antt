@@ -1,5 +1,5 @@
 -- The readers of statements, declarations and programs read their phrases.
-use Rattle.std.proofs.Common.{◌≡◌, ◌≢◌, ℕ, zero, suc, ◌+◌, ◌≤◌, ◌<◌, Bool, true, false, ◌||◌, ◌⊎◌, inl, inr, List, [], ◌∷◌, ◌++◌, Option, Some, None, refl, sym, ap, subst, ◌∙◌, arith, cond}
+use Rattle.std.proofs.Common.{◌≡◌, ◌≢◌, ℕ, zero, suc, ◌+◌, ◌≤◌, ◌<◌, Bool, true, false, ◌||◌, ◌⊎◌, inl, inr, List, [], ◌∷◌, ◌++◌, length, Option, Some, None, Ok, Err, refl, sym, ap, subst, ◌∙◌, arith, cond}
 use Rattle.std.specs.Prelude.{codes, bytes_eq, ◌&&◌, not}
 use Rattle.std.proofs.lemmas.Bool.{false≢true, or_parts, or_cases}
 use Rattle.mk_base.specs.declared.Place.{Place}
@@ -18,10 +18,11 @@ use Rattle.mk_ast.specs.Tokens.{Token, reserved}
 use Rattle.mk_ast.specs.Phrases.{Phrase, nothing, one, made, ◌or◌, ◌and◌, after, until, optional, many, separated}
 use Rattle.mk_ast.specs.Grammar.{name, number, size, element, meaning, reference, sum, assignment, heading, statement, class, map_declaration, variable_declaration, declaration, most_brackets, program}
 use Rattle.mk_parse.specs.Readers.{Reader, starts, says, never, fails, skips, takes, makes, ◌next◌, past, ended, chosen, perhaps, every, parted}
-use Rattle.mk_parse.specs.Reading.{is_word, is_among, all_go_on, is_name, name_of, number_of, size_of, element_of, sum_at, reference_at, assignment_at, heading_by, begins_statement, statement_at, plain_class, local_class, class_by, map_by, size_part, variable_by, declaration_by, begins_declaration, field_of, program_by}
+use Rattle.mk_parse.specs.Reading.{is_word, is_among, all_go_on, is_name, name_of, number_of, size_of, element_of, sum_at, reference_at, assignment_at, heading_by, begins_statement, statement_at, loop_at, plain_class, local_class, class_by, image_by, map_by, size_part, variable_by, declaration_by, begins_declaration, field_of, program_by}
 use Rattle.mk_parse.proofs.Laws.{Stops, Reads, BeginsBy, reads_token, reads_made, says_is, is_says}
 use Rattle.mk_parse.proofs.Joined.{token_of, reads_after, after_begins, reads_and}
 use Rattle.mk_parse.proofs.Choices.{reads_same, reads_until, reads_or, reads_closed, stops_never, made_begins, and_begins, one_begins, apart_by}
+use Rattle.mk_parse.proofs.Loops.{shorter}
 use Rattle.mk_parse.proofs.Many.{reads_many, reads_separated, reads_optional}
 use Rattle.mk_parse.proofs.Terminals.{some_is}
 use Rattle.mk_parse.proofs.IndexPhrases.{not_true, says_other, no_name, name_says, reads_name, name_is, reads_number, reads_size}
@@ -340,3 +341,21 @@ reads_program =
     let body = reads_many begins_statement more_program (reads_statement most_brackets) (statement_is most_brackets) (λ t e. refl)
         (λ t e. (or_parts (begins_statement t) (begins_declaration t) e).0) (λ t e. refl) in
     reads_made program_made (reads_and head (reads_and declarations body declarations_end) (λ back n rest h s. stops_never (back ++ rest)))
+
+-- ---- what the loops of the parser read takes tokens
+
+pub statement_shorter : (brackets : ℕ) (ts : List Token) (s : Stmt) (rest : List Token) → statement_at brackets ts ≡ Ok (s, rest) → length rest < length ts
+statement_shorter brackets ts s rest e = shorter begins_statement (reads_statement brackets) (statement_is brackets) ts s rest e
+
+pub declaration_shorter : (ts : List Token) (d : Decl) (rest : List Token) → declaration_by ts ≡ Ok (d, rest) → length rest < length ts
+declaration_shorter ts d rest e = shorter begins_declaration reads_declaration declaration_is ts d rest e
+
+pub image_shorter : (ts : List Token) (n : ℕ) (rest : List Token) → past (codes ",") image_by ts ≡ Ok (n, rest) → length rest < length ts
+image_shorter ts n rest e =
+    shorter (says (codes ",")) (reads_after (codes ",") (reads_made (λ (x : ℕ × Place). x.0) reads_element)) (after_begins (codes ",") (made (λ (x : ℕ × Place). x.0) element)) ts n rest e
+
+-- a statement is a loop or an assignment
+pub statement_by : (brackets : ℕ) (ts : List Token) → statement_at brackets ts ≡ chosen (says (codes "for")) (loop_at brackets) (assignment_at brackets) ts
+unfolding statement_at
+statement_by zero ts = refl
+statement_by (suc brackets) ts = refl
