@@ -1,7 +1,7 @@
 -- Tokens one after the other.
-use Rattle.std.proofs.Common.{◌≡◌, ℕ, zero, suc, ◌+◌, ◌-◌, ◌<◌, ◌≤◌, Bool, true, false, ◌⊎◌, List, [], ◌∷◌, ◌++◌, length, take, drop, refl, sym, ap, subst, ◌∙◌, inl, inr, arith, length-append, length-drop, length-take, append_assoc}
-use Rattle.std.specs.Prelude.{map, Contains, All, IsTrue, ◌↔◌, ◌==◌}
-use Rattle.std.proofs.lemmas.List.{drop-drop, drop_at, drop_all, take_at, take-append-drop, map_push, append-nil}
+use Rattle.std.proofs.Common.{◌≡◌, ℕ, ◌+◌, ◌-◌, ◌<◌, ◌≤◌, Bool, true, false, ◌⊎◌, List, [], ◌∷◌, ◌++◌, length, take, drop, refl, sym, ap, subst, ◌∙◌, inl, inr, arith, length-append, length-drop, length-take}
+use Rattle.std.specs.Prelude.{map, All, ◌==◌}
+use Rattle.std.proofs.lemmas.List.{drop-drop, drop_all, take_at, take-append-drop, map_push, append-nil}
 use Rattle.std.proofs.lemmas.Bool.{eqb-true, eq-eqb, both_ways}
 use Rattle.std.proofs.lemmas.List.Elements.{All-nil, All-push}
 use Rattle.std.proofs.Math.Seq.{take-add}
@@ -138,8 +138,10 @@ reached_end text tokens index at whole r stuck is =
       is_gap = r.gap.1;
       begins = r.begins;
       place = r.placed.1 ∙ sym (place_of_drop text index r.placed.0);
-      ended = (λ t. drop_all index text (omega (arith, eqb-true index (length text) (sym is ∙ t))),
-          λ none. is ∙ eq-eqb index (length text) (omega (arith, ap length none, length-drop index text, r.placed.0)));
+      ended = (
+        λ t. drop_all index text (omega (arith, eqb-true index (length text) (sym is ∙ t))),
+        λ none. is ∙ eq-eqb index (length text) (omega (arith, ap length none, length-drop index text, r.placed.0)),
+      );
       stuck = stuck;
       within = r.within;
       spans = r.spans;
@@ -209,18 +211,20 @@ lexed_all text tokens at whole l others h =
 -- where not all was read, the text has no tokens, and that place is the first bad one
 pub lexed_bad : (text : List ℕ) (tokens : List Token) (at : Place) (whole : Bool) → IsLexed text tokens at whole → whole ≡ false → IsFirstBad text at × ((others : List Spelled) → AreTokens text others → ⊥)
 lexed_bad text tokens at whole l isnt =
-    let rest : l.here ≡ [] → ⊥ = λ none. both_ways whole isnt (l.ended.1 none) in
-    (record {
-      tokens = map (seen text) tokens;
-      gap = l.gap;
-      here = l.here;
-      before = l.before;
-      is_gap = elim l.is_gap [ inl gap ↦ gap | inr h ↦ absurd (rest h.1) ];
-      begins = l.begins;
-      rest = rest;
-      stuck = l.stuck;
-      place = l.place;
-    }, λ others h. both_ways whole isnt (lexed_all text tokens at whole l others h).1)
+    let rest : l.here ≡ [] → ⊥ = λ none. both_ways whole isnt (l.ended.1 none) in (
+      record {
+        tokens = map (seen text) tokens;
+        gap = l.gap;
+        here = l.here;
+        before = l.before;
+        is_gap = elim l.is_gap [ inl gap ↦ gap | inr h ↦ absurd (rest h.1) ];
+        begins = l.begins;
+        rest = rest;
+        stuck = l.stuck;
+        place = l.place;
+      },
+      λ others h. both_ways whole isnt (lexed_all text tokens at whole l others h).1,
+    )
 
 -- where all was read, these are the tokens
 pub lexed_whole : (text : List ℕ) (tokens : List Token) (at : Place) (whole : Bool) → IsLexed text tokens at whole → whole ≡ true → AreAllTokens text tokens
@@ -234,3 +238,38 @@ lexed_whole text tokens at whole l is = record {
     last : IsGap l.gap ⊎ (IsLastGap l.gap × (l.here ≡ [])) → IsLastGap l.gap
     last (inl gap) = gap_append l.gap (10 ∷ []) gap (inl (refl, tt))
     last (inr h) = h.0
+
+-- tokens that come after others
+pub begins_split : (text left : List ℕ) (ts us : List Spelled) (rest : List ℕ) → BeginsWith text left (ts ++ us) rest → (mid : List ℕ) × BeginsWith text left ts mid × BeginsWith text mid us rest
+begins_split text left [] us rest h = (left, refl, h)
+begins_split text left (t ∷ ts) us rest h = let after = begins_split text h.0 ts us rest h.2 in (after.0, (h.0, h.1, after.1), after.2)
+
+-- tokens and others behind them
+pub begins_append : (text left : List ℕ) (ts : List Spelled) (mid : List ℕ) (us : List Spelled) (rest : List ℕ) → BeginsWith text left ts mid → BeginsWith text mid us rest → BeginsWith text left (ts ++ us) rest
+begins_append text left [] mid us rest p q = subst (λ (l : List ℕ). BeginsWith text l us rest) (sym p) q
+begins_append text left (t ∷ ts) mid us rest p q = (p.0, p.1, begins_append text p.0 ts mid us rest p.2 q)
+
+-- What stands before a token that comes behind others: a gap, and then, at its place, its bytes.
+pub record StandsAfter (text : List ℕ) (tokens : List Spelled) (token : Spelled) : Type 0 where
+  pub gap : List ℕ
+  pub behind : List ℕ
+  pub before : BeginsWith text text tokens (gap ++ (token.text ++ behind))
+  pub is_gap : IsGap gap
+  pub begins : NoGapBegins (token.text ++ behind)
+  pub is_token : IsToken token.text behind
+  pub place : token.at ≡ place_of text (token.text ++ behind)
+
+-- each token of a text stands so
+pub stands_after : (text : List ℕ) (ts : List Spelled) (t : Spelled) (us : List Spelled) (rest : List ℕ) → BeginsWith text text (ts ++ t ∷ us) rest → StandsAfter text ts t
+stands_after text ts t us rest h =
+    let parts = begins_split text text ts (t ∷ us) rest h in
+    let next = parts.2.1 in
+    record {
+      gap = next.gap;
+      behind = parts.2.0;
+      before = subst (λ (mid : List ℕ). BeginsWith text text ts mid) next.parts parts.1;
+      is_gap = next.is_gap;
+      begins = (token_begins t.text parts.2.0 next.is_token).1;
+      is_token = next.is_token;
+      place = next.place;
+    }

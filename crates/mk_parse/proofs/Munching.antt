@@ -1,12 +1,12 @@
 -- How far a token goes.
-use Rattle.std.proofs.Common.{◌≡◌, ℕ, zero, suc, ◌+◌, ◌<◌, ◌≤◌, ◌^◌, Bool, true, false, ◌⊎◌, List, [], ◌∷◌, ◌++◌, length, take, drop, get_or, Option, Some, None, nat_lt, nat_le, ◌-◌, refl, sym, ap, subst, ◌∙◌, inl, inr, arith, rules, length-append}
-use Rattle.std.specs.Prelude.{◌||◌, ◌&&◌, ◌==◌, not, cond, IsTrue, Contains, codes, decimal, All, Decides, MatchOption, map, min}
+use Rattle.std.proofs.Common.{◌≡◌, ℕ, zero, suc, ◌+◌, ◌<◌, ◌≤◌, Bool, true, false, ◌⊎◌, List, [], ◌∷◌, ◌++◌, length, take, drop, get_or, Option, Some, None, nat_lt, nat_le, ◌-◌, refl, sym, ap, subst, ◌∙◌, inl, inr, arith, length-append}
+use Rattle.std.specs.Prelude.{◌||◌, ◌&&◌, ◌==◌, not, cond, IsTrue, Contains, codes, Decides, MatchOption, map, min}
 use Rattle.std.specs.List.{prefix_len, AllByRecursion}
 use Rattle.std.specs.Option.{is_some}
 use Rattle.std.specs.Char.{is_ascii_alphabetic, is_ascii_alphanumeric, is_ascii_digit}
 use Rattle.std.specs.Int.{is_in_range}
 use Rattle.std.specs.Str.{all_ascii_digits}
-use Rattle.std.proofs.lemmas.Bool.{and_parts, or_cases, or_parts, or_left, or_right, eqb-true, eqb-false, eq-eqb, cases_Bool, both_ways, false≢true, ltb-true, ltb-false, and_from, lt-ltb, le-leb, false_from_ne_true, not-true, cond-true, cond-false}
+use Rattle.std.proofs.lemmas.Bool.{and_parts, or_cases, or_left, or_right, eqb-true, eq-eqb, cases_Bool, both_ways, false≢true, ltb-true, ltb-false, and_from, le-leb, false_from_ne_true, not-true, cond-true, cond-false}
 use Rattle.std.proofs.lemmas.List.{drop_at, take_at, take_rest, append-nil, get_or-map}
 use Rattle.std.proofs.lemmas.List.Sums.{prefix_len-le-length}
 use Rattle.std.proofs.lemmas.List.Elements.{All-from_recursion, All-contains, Contains-append_left, Contains-push_cases}
@@ -73,6 +73,7 @@ hex_goes_on c value h = elim (hex_tests (nat_lt c 48) (nat_lt c 58) (nat_lt c 65
   where
     within : (low high c : ℕ) → low ≤ c → c < high + 1 → is_in_range low high c ≡ true
     within low high c l h = and_from (nat_le low c) (nat_le c high) (le-leb low c l) (le-leb c high (omega arith))
+
     letter : (is_in_range 65 90 c || is_in_range 97 122 c) ≡ true → goes_on c ≡ true
     letter h = by_letter (is_in_range 48 57 c) (is_in_range 65 90 c) (is_in_range 97 122 c) (c == 95) h
 
@@ -115,6 +116,7 @@ no_gap_goes_on b h = false_from_ne_true (is_blank b || b == 35) (λ gap. by (or_
   where
     not_at : (c : ℕ) → goes_on c ≡ false → (b == c) ≡ true → ⊥
     not_at c isnt e = both_ways (goes_on c) isnt (subst (λ (d : ℕ). goes_on d ≡ true) (eqb-true b c e) h)
+
     by : (is_blank b ≡ true) ⊎ ((b == 35) ≡ true) → ⊥
     by (inr hash) = not_at 35 refl hash
     by (inl blank) = elim (or_cases (b == 32 || b == 9 || b == 13) (b == 10) blank) [
@@ -233,10 +235,13 @@ single_symbol (b ∷ []) r e d = (λ held. to (d.0 held), λ h. d.1 (from h))
   where
     to : Contains marks b → Contains symbols (b ∷ [])
     to (k, lt, is) = Contains-append_left (map one marks) (codes ".." ∷ []) (one b) (k, lt, get_or-map one marks k b (one b) lt ∙ ap one is)
+
     head : (x : ℕ) → one x ≡ one b → x ≡ b
     head x is = cc
+
     dots : codes ".." ≡ one b → ⊥
     dots is = absurd cc
+
     from : Contains symbols (b ∷ []) → Contains marks b
     from h = elim (Contains-push_cases (map one marks) (codes "..") (one b) h) [
       | inl (k, lt, is) ↦ (k, lt, head (get_or marks k b) (sym (get_or-map one marks k b (one b) lt) ∙ is))
@@ -253,6 +258,7 @@ all_go_on (c ∷ cs) e = elim (cases_Bool (goes_on c)) [
   where
     more : cond (goes_on c) (1 + prefix_len goes_on cs) 0 ≡ 1 + prefix_len goes_on cs → prefix_len goes_on cs ≡ length cs
     more is = omega (arith, e, is)
+
     none : cond (goes_on c) (1 + prefix_len goes_on cs) 0 ≡ 0 → ⊥
     none is = omega (arith, e, is)
 
@@ -268,9 +274,10 @@ word_rest (b ∷ bs) run some begins short is =
     by : (r : List ℕ) → r ≡ bs → length r < 64 → run ≡ prefix_len goes_on r → (IsTrue (run == length r) → IsWord (b ∷ bs)) × (IsWord (b ∷ bs) → IsTrue (run == length r))
     by r same short is =
         let count : run ≡ prefix_len goes_on bs = is ∙ ap (prefix_len goes_on) same in
-        let long : length r ≡ length bs = ap length same in
-        (λ e. (begins, all_go_on bs (sym count ∙ eqb-true run (length r) e ∙ long), omega arith),
-        λ h. eq-eqb run (length r) (count ∙ ap (prefix_len goes_on) (sym (append-nil bs)) ∙ munched bs [] h.1 tt ∙ sym long))
+        let long : length r ≡ length bs = ap length same in (
+          λ e. (begins, all_go_on bs (sym count ∙ eqb-true run (length r) e ∙ long), omega arith),
+          λ h. eq-eqb run (length r) (count ∙ ap (prefix_len goes_on) (sym (append-nil bs)) ∙ munched bs [] h.1 tt ∙ sym long),
+        )
 
 -- a front that goes on is as long as such bytes go
 pub length_run : (bytes : List ℕ) → 0 < length bytes → goes_on (get_or bytes 0 0) ≡ true → min (length bytes) (token_length bytes) ≡ prefix_len goes_on bytes

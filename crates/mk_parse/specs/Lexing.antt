@@ -1,5 +1,5 @@
 -- What tokens of the program stand for in a text, and where a text has no further token.
-use Rattle.std.specs.Prelude.{◌≡◌, ℕ, ◌+◌, ◌-◌, ◌≤◌, ◌<◌, ◌⊎◌, Bool, IsTrue, ◌↔◌, List, [], ◌∷◌, ◌++◌, length, take, drop, map, Contains, slice_range, All}
+use Rattle.std.specs.Prelude.{◌≡◌, ℕ, ◌-◌, ◌≤◌, ◌<◌, ◌⊎◌, Bool, IsTrue, ◌↔◌, List, [], ◌∷◌, ◌++◌, length, take, drop, map, Contains, All}
 use Rattle.mk_base.specs.declared.Place.{Place}
 use Rattle.mk_ast.specs.Tokens.{Token as Spelled, IsGap, IsLastGap, IsWord, IsNumber, IsElement, IsToken, BeginsWith, AreTokens, place_of, place_behind, symbols}
 use Rattle.mk_ast.specs.Spells.{NoGapBegins}

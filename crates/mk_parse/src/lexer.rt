@@ -259,3 +259,6 @@ pub fn tokens(alloc: Global, text: &[u8]) -> Result<TokenList, SourceRefusal>
     }
     Ok(tokens)
 }
+
+#[cfg(test)]
+mod tests;

@@ -1,5 +1,8 @@
 //! The tokens of a text.
 
+ghost use Rattle.std.specs.Prelude.{◌≡◌, ◌≤◌, length};
+ghost use Rattle.mk_parse.specs.Lexing.{seen};
+
 use mk_base::{Items, Place};
 
 /// A kind of token.
@@ -22,6 +25,17 @@ pub struct Token {
     pub from: u32,
     pub to: u32,
     pub at: Place,
+}
+
+impl Token {
+    /// The bytes of this token, which is one of this text.
+    pub fn text<'a>(&self, text: &'a [u8]) -> &'a [u8]
+        requires order { self.now.from ≤ self.now.to }
+        requires within { self.now.to ≤ length text.now }
+        ensures { result.now ≡ (seen text.now self.now).text }
+    {
+        &text[self.from as usize..self.to as usize]
+    }
 }
 
 /// A list of tokens.

@@ -1,5 +1,5 @@
 -- Byte after byte.
-use Rattle.std.proofs.Common.{ℕ, ◌+◌, List, [], ◌∷◌, ◌++◌, take, get_or, length, ap, sym, ◌∙◌, arith, append_assoc}
+use Rattle.std.proofs.Common.{ℕ, List, [], ◌∷◌, ◌++◌, take, get_or, ap, sym, ◌∙◌, arith, append_assoc}
 use Rattle.std.proofs.lemmas.List.{take_more, take_all}
 use Rattle.mk_ast.specs.Tokens.{place_behind}
 use Rattle.mk_parse.proofs.lexer.behind_all.Goals as goal

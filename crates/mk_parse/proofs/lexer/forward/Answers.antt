@@ -1,5 +1,5 @@
 -- The place of the bytes on the way.
-use Rattle.std.proofs.Common.{◌+◌, ◌-◌, arith, length, take, drop, length-take, length-drop}
+use Rattle.std.proofs.Common.{◌+◌, ◌-◌, arith, drop, length-take, length-drop}
 use Rattle.mk_parse.proofs.Lexed.{placed_small, forward_placed}
 use Rattle.mk_parse.proofs.lexer.forward.Goals as goal
 

@@ -1,5 +1,5 @@
 -- By the first byte.
-use Rattle.std.proofs.Common.{ℕ, true, false, eqb, get_or, length, inl, inr, sym, ◌∙◌, arith}
+use Rattle.std.proofs.Common.{true, false, get_or, inl, inr, sym, ◌∙◌, arith}
 use Rattle.std.proofs.lemmas.Bool.{eq-eqb, ne_eqb}
 use Rattle.std.proofs.lemmas.List.Sums.{prefix_len-le-length}
 use Rattle.mk_ast.specs.Tokens.{goes_on}

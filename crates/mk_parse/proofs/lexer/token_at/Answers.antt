@@ -1,6 +1,5 @@
 -- What stands here has a kind or none.
-use Rattle.std.proofs.Common.{ℕ, List, ◌-◌, length, take, drop, subst, sym}
-use Rattle.std.specs.Prelude.{Option, MatchOption}
+use Rattle.std.proofs.Common.{ℕ, ◌-◌, length, take, drop, subst, sym}
 use Rattle.std.proofs.lemmas.List.{take_rest}
 use Rattle.mk_parse.specs.Lexing.{IsTokenBetween, NoTokenBegins}
 use Rattle.mk_parse.proofs.Lexed.{no_token, token_between}

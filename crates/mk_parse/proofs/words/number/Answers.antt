@@ -1,9 +1,8 @@
 -- Digit after digit.
-use Rattle.std.proofs.Common.{◌≡◌, ℕ, ◌+◌, ◌*◌, ◌-◌, ◌<◌, ◌&&◌, true, length, drop, get_or, arith, sym, ◌∙◌, ap, subst}
+use Rattle.std.proofs.Common.{◌≡◌, ℕ, ◌+◌, ◌*◌, ◌&&◌, true, drop, get_or, arith, sym, ◌∙◌, ap}
 use Rattle.std.specs.Char.{is_ascii_digit}
 use Rattle.std.specs.Str.{all_ascii_digits}
-use Rattle.std.proofs.lemmas.Bool.{and_parts, and_from, both_ways}
-use Rattle.mk_ast.specs.Tokens.{IsNumber}
+use Rattle.std.proofs.lemmas.Bool.{both_ways}
 use Rattle.mk_parse.proofs.Decoding.{valued, digit_more, all_more, number_parts, not_all_digits, too_large, number_end}
 use Rattle.mk_parse.proofs.words.number.Goals as goal
 
