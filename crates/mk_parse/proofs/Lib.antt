@@ -12,3 +12,4 @@ pub mod Gaps
 pub mod Munching
 pub mod Placing
 pub mod Lexed
+mod Refusals

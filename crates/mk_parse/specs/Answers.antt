@@ -1,7 +1,8 @@
 -- What the functions of the parser answer: what the reader reads, or that memory was wanted. Where a
 -- token doesn't fit, the parser stands there.
-use Rattle.std.specs.Prelude.{◌≡◌, ℕ, List, Result, Ok, Err, map, refl}
+use Rattle.std.specs.Prelude.{◌≡◌, ℕ, List, [], ◌∷◌, Result, Ok, Err, map, refl}
 use Rattle.std.specs.Coded.{Coded, code_by, coded×, coded_ℕ, coded_list}
+use Rattle.mk_base.specs.declared.Place.{Place}
 use Rattle.mk_ast.specs.Tokens.{Token as Spelled}
 use Rattle.mk_parse.specs.declared.token.Token.{Token}
 use Rattle.mk_parse.specs.declared.cursor.Stop.{Stop}
@@ -20,3 +21,14 @@ abbrev pub Answers : {A : Type 0} → Result A Stop → List Spelled → Reading
 Answers (Ok a) new reading = reading ≡ Ok (a, new)
 Answers (Err Here) new reading = reading ≡ Err new
 Answers (Err Memory) new reading = Unit {0}
+
+-- the same of what reads all tokens
+abbrev pub AnswersAll : {A : Type 0} → Result A Stop → List Spelled → Result A (List Spelled) → Type 0
+AnswersAll (Ok a) new reading = reading ≡ Ok a
+AnswersAll (Err Here) new reading = reading ≡ Err new
+AnswersAll (Err Memory) new reading = Unit {0}
+
+-- the place of the first of the tokens, or this one where there is none
+abbrev pub place_at : Place → List Spelled → Place
+place_at end [] = end
+place_at end (t ∷ ts) = t.at

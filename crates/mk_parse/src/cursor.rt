@@ -1,11 +1,11 @@
 //! A place in the list of a text's tokens.
 
-ghost use Rattle.std.specs.Prelude.{◌≡◌, ◌≤◌, [], ◌∷◌, length, take, List, MatchOption, All, IsTrue};
+ghost use Rattle.std.specs.Prelude.{◌≡◌, ◌≤◌, [], ◌∷◌, length, take, List, MatchOption, All, IsTrue, ◌↔◌};
 ghost use Rattle.mk_ast.specs.Tokens.{Token as Spelled};
 ghost use Rattle.mk_parse.specs.Lexing.{IsWithin};
 ghost use Rattle.mk_parse.specs.Readers.{starts, says, takes, expects};
 ghost use Rattle.mk_parse.specs.Reading.{is_name, is_name_text, number_text, positive, gives, name_of, number_of, size_of, element_of};
-ghost use Rattle.mk_parse.specs.Answers.{Answers, seen_tokens};
+ghost use Rattle.mk_parse.specs.Answers.{Answers, place_at, seen_tokens};
 
 use crate::lexer::is_word;
 use crate::token::Token;
@@ -66,6 +66,7 @@ fn size_value(text: &[u8]) -> Option<u32>
 
 /// The tokens of a text that are still to be read. Contracts see them as a list of tokens with their
 /// bytes.
+#[derive(Drop)]
 pub(crate) struct Cursor<'a> {
     alloc: Global,
     text: &'a [u8],
@@ -121,6 +122,23 @@ impl<'a> Cursor<'a> {
         ensures { (t : Spelled) × (self.old ≡ t ∷ self.new) }
     {
         self.rest = &self.rest[1..];
+    }
+
+    /// Whether no token is left.
+    pub(crate) fn is_at_end(&self) -> bool
+        ensures { IsTrue result ↔ (self.now ≡ []) }
+    {
+        self.first().is_none()
+    }
+
+    /// The place of the next token, or this one where no token is left.
+    pub(crate) fn place(&self, end: Place) -> Place
+        ensures { result ≡ place_at end self.now }
+    {
+        match self.first() {
+            Some((_, at)) => at,
+            None => end,
+        }
     }
 
     /// Whether the next token is this word or symbol.

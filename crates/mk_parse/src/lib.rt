@@ -6,9 +6,11 @@ mod declarations;
 mod expressions;
 mod indexes;
 mod lexer;
+mod program;
 mod statements;
 mod token;
 mod words;
 
 pub use lexer::tokens;
+pub use program::parse;
 pub use token::{Token, TokenKind, TokenList};
