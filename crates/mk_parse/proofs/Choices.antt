@@ -236,31 +236,31 @@ module _ {A : Type 0} (test : Token → Bool) {second : Reader A} {phrase : Phra
 
   closed_found : (ts : List Token) (a : A) (rest : List Token) → chosen test fails second ts ≡ Ok (a, rest) → Found (chosen test fails second) phrase ts a rest
   closed_found ts a rest e = elim (cond_is (starts test ts) (refused A ts) (second ts) (Ok (a, rest)) e) [
-    inl h ↦ absurd (let wrong = h.1 in cc)
+    | inl h ↦ absurd (let wrong = h.1 in cc)
     | inr h ↦ (
-      let found = reads.found ts a rest h.1 in
-      record {
-        taken = found.taken;
-        parts = found.parts;
-        spelled = found.spelled;
-        again = λ other s. closed_is (found.taken ++ other) (kept_closed ts found.taken rest other false found.parts s h.0) ∙ found.again other s;
-      })
+        let found = reads.found ts a rest h.1 in
+        record {
+          taken = found.taken;
+          parts = found.parts;
+          spelled = found.spelled;
+          again = λ other s. closed_is (found.taken ++ other) (kept_closed ts found.taken rest other false found.parts s h.0) ∙ found.again other s;
+        })
   ]
 
   closed_stuck : (ts bad : List Token) → chosen test fails second ts ≡ Err bad → Stuck (chosen test fails second) phrase ts bad
   closed_stuck ts bad e = elim (cond_is (starts test ts) (refused A ts) (second ts) (Err bad) e) [
-    inl h ↦ stuck_here (chosen test fails second) phrase ts bad reads.sample reads.sample_value (err_same A ts bad h.1) reads.sampled
+    | inl h ↦ stuck_here (chosen test fails second) phrase ts bad reads.sample reads.sample_value (err_same A ts bad h.1) reads.sampled
         (λ other s. closed_fails other (starts_same test ts other s ∙ h.0))
     | inr h ↦ (
-      let stuck = reads.stuck ts bad h.1 in
-      record {
-        taken = stuck.taken;
-        parts = stuck.parts;
-        more = stuck.more;
-        value = stuck.value;
-        completed = stuck.completed;
-        again = λ other s. closed_is (stuck.taken ++ other) (kept_closed ts stuck.taken bad other false stuck.parts s h.0) ∙ stuck.again other s;
-      })
+        let stuck = reads.stuck ts bad h.1 in
+        record {
+          taken = stuck.taken;
+          parts = stuck.parts;
+          more = stuck.more;
+          value = stuck.value;
+          completed = stuck.completed;
+          again = λ other s. closed_is (stuck.taken ++ other) (kept_closed ts stuck.taken bad other false stuck.parts s h.0) ∙ stuck.again other s;
+        })
   ]
 
   pub reads_closed : Reads (chosen test fails second) phrase goes_on

@@ -66,12 +66,12 @@ reads_index_part zero =
     reads_same (reads_by (λ ts. refl) (reads_closed (says (codes "[")) (reads_empty {A = Option Index} None (says (codes "["))) (none_apart (says (codes "[")) Index))) none_to none_from
 reads_index_part (suc brackets) =
     reads_optional (says (codes "[")) (says (codes "[")) (reads_after (codes "[") (reads_until (codes "]") (reads_index_sum brackets) square_stops))
-        (after_begins (codes "[") (until (codes "]") (index_sum brackets))) (λ t e. refl) (λ t e. e)
+    (after_begins (codes "[") (until (codes "]") (index_sum brackets))) (λ t e. refl) (λ t e. e)
 
 pub reads_reference : (brackets : ℕ) → Reads (reference_at brackets) (reference brackets) (says (codes "["))
 reads_reference brackets =
     reads_made (λ (x : (List ℕ × Place) × Option Index). reference_of x.0 x.1)
-        (reads_and reads_name (reads_index_part brackets) (λ back o rest h s. stops_never (back ++ rest)))
+    (reads_and reads_name (reads_index_part brackets) (λ back o rest h s. stops_never (back ++ rest)))
 
 pub reference_is : (brackets : ℕ) → BeginsBy is_name (reference brackets)
 reference_is brackets = made_begins is_name _ _ (and_begins is_name name (index_phrase brackets) name_is)
@@ -106,7 +106,7 @@ index_apart brackets back None rest h s = ap (λ (l : List Token). starts (says 
 index_apart zero back (Some i) rest h s = absurd h
 index_apart (suc brackets) back (Some i) rest h s =
     apart_by (says (codes "(")) (says (codes "[")) _ (after_begins (codes "[") (until (codes "]") (index_sum brackets)))
-        (λ t e. says_other (codes "[") (codes "(") t (says_is (codes "[") t e) refl) back i rest h
+    (λ t e. says_other (codes "[") (codes "(") t (says_is (codes "[") t e) refl) back i rest h
 
 reads_tail_index : (brackets : ℕ) → Reads (makes read_at (index_part brackets)) (made read_at (index_phrase brackets)) opens
 reads_tail_index brackets = reads_before opens opens_square (reads_made read_at (reads_index_part brackets))
@@ -136,7 +136,7 @@ reads_tail_closed =
 reads_tail_open : (brackets : ℕ) (inner : Reader Expr) → Reads inner (inner_phrase (suc brackets)) never → Reads (after_name (suc brackets) inner) (tail_phrase (suc brackets) (inner_phrase (suc brackets))) opens
 reads_tail_open brackets inner reads =
     reads_or (says (codes "(")) opens (reads_made called reads) (made_begins (says (codes "(")) called _ (inner_is (suc brackets))) (λ t e. refl)
-        (reads_tail_index (suc brackets)) (tail_apart (suc brackets)) (λ t e. e)
+    (reads_tail_index (suc brackets)) (tail_apart (suc brackets)) (λ t e. e)
 
 -- a name and what follows it
 abbrev name_phrase : ℕ → Phrase Expr → Phrase Expr
@@ -157,7 +157,7 @@ name_from brackets phrase ts e (inr (r, (x, (front, back, parts, is_name, h), ma
 reads_named : (brackets : ℕ) (inner : Reader Expr) (phrase : Phrase Expr) → Reads (after_name brackets inner) (tail_phrase brackets phrase) opens → Reads (named brackets inner) (name_phrase brackets phrase) opens
 reads_named brackets inner phrase reads =
     reads_same (reads_made (λ (x : (List ℕ × Place) × (List ℕ × Place → Expr)). x.1 x.0) (reads_and reads_name reads (λ back f rest h s. stops_never (back ++ rest))))
-        (name_to brackets phrase) (name_from brackets phrase)
+    (name_to brackets phrase) (name_from brackets phrase)
 
 named_is : (brackets : ℕ) (phrase : Phrase Expr) → BeginsBy is_name (name_phrase brackets phrase)
 named_is brackets phrase ts e (inl h) = made_begins is_name _ _ (and_begins is_name name phrase name_is) ts e h
@@ -194,9 +194,9 @@ reads_bottom_open : (brackets : ℕ) (inner : Reader Expr) → Reads inner (inne
 reads_bottom_open brackets inner reads =
     let phrase = inner_phrase (suc brackets) in
     reads_same
-        (reads_or is_name opens (reads_named (suc brackets) inner phrase (reads_tail_open brackets inner reads)) (named_is (suc brackets) phrase) (λ t e. e)
-            reads (λ back e rest h s. apart_by is_name (says (codes "(")) phrase (inner_is (suc brackets)) open_no_name back e rest h) (λ t e. refl))
-        (regroup (suc brackets) phrase) (group (suc brackets) phrase)
+    (reads_or is_name opens (reads_named (suc brackets) inner phrase (reads_tail_open brackets inner reads)) (named_is (suc brackets) phrase) (λ t e. e)
+    reads (λ back e rest h s. apart_by is_name (says (codes "(")) phrase (inner_is (suc brackets)) open_no_name back e rest h) (λ t e. refl))
+    (regroup (suc brackets) phrase) (group (suc brackets) phrase)
 
 -- such a factor begins with a name or a parenthesis
 abbrev begins_bottom : Token → Bool
@@ -214,20 +214,20 @@ wider test other phrase begins more ts a h = let b = begins ts a h in (b.0, b.1,
 
 bottom_is : (brackets : ℕ) → BeginsBy begins_bottom (bottom_phrase brackets (inner_phrase brackets))
 bottom_is brackets ts e h = elim (group brackets (inner_phrase brackets) ts e h) [
-  inl k ↦ wider is_name begins_bottom _ (named_is brackets (inner_phrase brackets)) (λ t e. or_left (is_name t) (says (codes "(") t) e) ts e k
+  | inl k ↦ wider is_name begins_bottom _ (named_is brackets (inner_phrase brackets)) (λ t e. or_left (is_name t) (says (codes "(") t) e) ts e k
   | inr k ↦ wider (says (codes "(")) begins_bottom _ (inner_is brackets) (λ t e. or_right (is_name t) (says (codes "(") t) e) ts e k
 ]
 
 bottom_no_square : (t : Token) → begins_bottom t ≡ true → says (codes "sq") t ≡ false
 unfolding is_among all_go_on
 bottom_no_square t e = elim (or_cases (is_name t) (says (codes "(") t) e) [
-  inl h ↦ name_says (codes "sq") t h refl
+  | inl h ↦ name_says (codes "sq") t h refl
   | inr h ↦ says_other (codes "(") (codes "sq") t (says_is (codes "(") t h) refl
 ]
 
 bottom_no_element : (t : Token) → begins_bottom t ≡ true → gives element_of t ≡ false
 bottom_no_element t e = elim (or_cases (is_name t) (says (codes "(") t) e) [
-  inl h ↦ name_no_element t h
+  | inl h ↦ name_no_element t h
   | inr h ↦ word_no_element (codes "(") t (says_is (codes "(") t h) (λ e. omega (arith, e))
 ]
 
@@ -237,7 +237,7 @@ square_phrase brackets phrase = made expr.Sq (after (codes "sq") phrase) or bott
 reads_square_closed : Reads (chosen (says (codes "sq")) fails (chosen is_name (named zero fails) fails)) (square_phrase zero nothing) opens
 reads_square_closed =
     reads_same (reads_closed (says (codes "sq")) reads_bottom_closed (λ back e rest h s. apart_by (says (codes "sq")) begins_bottom _ (bottom_is zero) bottom_no_square back e rest h))
-        (λ ts e h. inr h) from
+    (λ ts e h. inr h) from
   where
     from : (ts : List Token) (e : Expr) → square_phrase zero nothing ts e → bottom_phrase zero nothing ts e
     from ts e (inl h) = absurd h.1.4
@@ -250,8 +250,8 @@ reads_square_open : (brackets : ℕ) (inner : Reader Expr) → Reads inner (inne
     → Reads (chosen (says (codes "sq")) (makes expr.Sq (past (codes "sq") inner)) (chosen is_name (named (suc brackets) inner) inner)) (square_phrase (suc brackets) (inner_phrase (suc brackets))) opens
 reads_square_open brackets inner reads =
     reads_or (says (codes "sq")) opens (reads_made expr.Sq (reads_after (codes "sq") reads)) (square_is (suc brackets) (inner_phrase (suc brackets))) (λ t e. refl)
-        (reads_bottom_open brackets inner reads)
-        (λ back e rest h s. apart_by (says (codes "sq")) begins_bottom _ (bottom_is (suc brackets)) bottom_no_square back e rest h) (λ t e. e)
+    (reads_bottom_open brackets inner reads)
+    (λ back e rest h s. apart_by (says (codes "sq")) begins_bottom _ (bottom_is (suc brackets)) bottom_no_square back e rest h) (λ t e. e)
 
 element_apart : (brackets : ℕ) (back : List Token) (e : Expr) (rest : List Token) → square_phrase brackets (inner_phrase brackets) back e → Stops opens rest → starts (gives element_of) (back ++ rest) ≡ false
 element_apart brackets back e rest (inl h) s =
@@ -265,12 +265,12 @@ literal_is = made_begins (gives element_of) (λ (x : ℕ × Place). expr.Lit x.0
 pub reads_factor_closed : Reads (factor_by zero fails) (factor zero nothing) opens
 reads_factor_closed =
     reads_or (gives element_of) opens (reads_made (λ (x : ℕ × Place). expr.Lit x.0 x.1) reads_element) literal_is (λ t e. refl)
-        reads_square_closed (element_apart zero) (λ t e. e)
+    reads_square_closed (element_apart zero) (λ t e. e)
 
 pub reads_factor_open : (brackets : ℕ) (inner : Reader Expr) → Reads inner (inner_phrase (suc brackets)) never → Reads (factor_by (suc brackets) inner) (factor (suc brackets) (inner_phrase (suc brackets))) opens
 reads_factor_open brackets inner reads =
     reads_or (gives element_of) opens (reads_made (λ (x : ℕ × Place). expr.Lit x.0 x.1) reads_element) literal_is (λ t e. refl)
-        (reads_square_open brackets inner reads) (element_apart (suc brackets)) (λ t e. e)
+    (reads_square_open brackets inner reads) (element_apart (suc brackets)) (λ t e. e)
 
 -- ---- products and sums
 
@@ -295,7 +295,7 @@ reads_product brackets inner phrase reads = reads_made (several expr.Product)
 reads_sum_by : (brackets : ℕ) (inner : Reader Expr) (phrase : Phrase Expr) → Reads (factor_by brackets inner) (factor brackets phrase) opens → Reads (sum_by brackets inner) (sum_with brackets phrase) more_sum
 reads_sum_by brackets inner phrase reads = reads_made (several expr.Sum)
     (reads_separated (codes "+") more_sum (reads_product brackets inner phrase reads) (λ t e. (or_parts (says (codes "+") t) (more_product t) e).1)
-        (λ t e. (or_parts (says (codes "+") t) (more_product t) e).0) plus_stops)
+    (λ t e. (or_parts (says (codes "+") t) (more_product t) e).0) plus_stops)
 
 closing_stops : (t : Token) → t.text ≡ codes ")" → more_sum t ≡ false
 closing_stops t is =
@@ -310,9 +310,9 @@ unfolding sum_at sum
 reads_sum zero = reads_sum_by zero fails nothing reads_factor_closed
 reads_sum (suc brackets) =
     let opened : Reads (past (codes "(") (ended (codes ")") (sum_at brackets))) (inner_phrase (suc brackets)) never =
-        reads_after (codes "(") (reads_until (codes ")") (reads_sum brackets) closing_stops) in
+    reads_after (codes "(") (reads_until (codes ")") (reads_sum brackets) closing_stops) in
     reads_sum_by (suc brackets) (past (codes "(") (ended (codes ")") (sum_at brackets))) (inner_phrase (suc brackets))
-        (reads_factor_open brackets (past (codes "(") (ended (codes ")") (sum_at brackets))) opened)
+    (reads_factor_open brackets (past (codes "(") (ended (codes ")") (sum_at brackets))) opened)
 
 -- ---- by the number of brackets that may still be opened
 
@@ -329,7 +329,7 @@ multiplied_shorter brackets ts e rest is =
 pub added_shorter : (brackets : ℕ) (ts : List Token) (e : Expr) (rest : List Token) → past (codes "+") (product_by brackets (sum_inner brackets)) ts ≡ Ok (e, rest) → length rest < length ts
 added_shorter brackets ts e rest is =
     shorter (says (codes "+")) (reads_after (codes "+") (reads_product brackets (sum_inner brackets) (inner_phrase brackets) (reads_factor brackets)))
-        (after_begins (codes "+") (product brackets (inner_phrase brackets))) ts e rest is
+    (after_begins (codes "+") (product brackets (inner_phrase brackets))) ts e rest is
 
 -- the reader of sums, by what stands in parentheses
 pub sum_is : (brackets : ℕ) (ts : List Token) → sum_at brackets ts ≡ sum_by brackets (sum_inner brackets) ts

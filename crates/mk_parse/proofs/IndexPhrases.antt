@@ -164,11 +164,11 @@ reads_index_sum zero =
 reads_index_sum (suc brackets) =
     let opened = reads_after (codes "(") (reads_until (codes ")") (reads_index_sum brackets) closing_stops) in
     reads_index_sum_by (past (codes "(") (ended (codes ")") (index_sum_at brackets))) (after (codes "(") (until (codes ")") (index_sum brackets)))
-        (reads_or is_name never reads_variable variable_is (λ t e. refl) opened
-            (λ back i rest h s. apart_by is_name (says (codes "(")) _ (after_begins (codes "(") (until (codes ")") (index_sum brackets))) open_no_name back i rest h)
-            (λ t e. refl))
-        (λ back i rest h. apart_by (gives number_of) (says (codes "(")) _ (after_begins (codes "(") (until (codes ")") (index_sum brackets)))
-            (λ t e. word_no_number (codes "(") t (says_is (codes "(") t e) refl) back i rest h)
+    (reads_or is_name never reads_variable variable_is (λ t e. refl) opened
+    (λ back i rest h s. apart_by is_name (says (codes "(")) _ (after_begins (codes "(") (until (codes ")") (index_sum brackets))) open_no_name back i rest h)
+    (λ t e. refl))
+    (λ back i rest h. apart_by (gives number_of) (says (codes "(")) _ (after_begins (codes "(") (until (codes ")") (index_sum brackets)))
+    (λ t e. word_no_number (codes "(") t (says_is (codes "(") t e) refl) back i rest h)
 
 -- ---- by the number of brackets that may still be opened
 
@@ -183,25 +183,25 @@ others_at : (brackets : ℕ) → Reads (chosen is_name variable (index_inner bra
 others_at zero = reads_same (reads_alone is_name never reads_variable variable_is (λ t e. refl)) none_to none_from
 others_at (suc brackets) =
     reads_or is_name never reads_variable variable_is (λ t e. refl) (opened_at brackets)
-        (λ back i rest h s. apart_by is_name (says (codes "(")) _ (after_begins (codes "(") (until (codes ")") (index_sum brackets))) open_no_name back i rest h)
-        (λ t e. refl)
+    (λ back i rest h s. apart_by is_name (says (codes "(")) _ (after_begins (codes "(") (until (codes ")") (index_sum brackets))) open_no_name back i rest h)
+    (λ t e. refl)
 
 apart_at : (brackets : ℕ) (back : List Token) (i : Index) (rest : List Token) → inner_phrase brackets back i → starts (gives number_of) (back ++ rest) ≡ false
 apart_at zero back i rest h = absurd h
 apart_at (suc brackets) back i rest h =
     apart_by (gives number_of) (says (codes "(")) _ (after_begins (codes "(") (until (codes ")") (index_sum brackets)))
-        (λ t e. word_no_number (codes "(") t (says_is (codes "(") t e) refl) back i rest h
+    (λ t e. word_no_number (codes "(") t (says_is (codes "(") t e) refl) back i rest h
 
 -- a link takes tokens, and so does what is added
 pub link_shorter : (brackets : ℕ) (ts : List Token) (l : Link) (rest : List Token) → index_link_by (index_inner brackets) ts ≡ Ok (l, rest) → length rest < length ts
 link_shorter brackets ts l rest e =
     shorter begins_link (reads_link (index_inner brackets) (inner_phrase brackets) (others_at brackets) (apart_at brackets))
-        (link_is (index_inner brackets) (inner_phrase brackets) (others_at brackets) (apart_at brackets)) ts l rest e
+    (link_is (index_inner brackets) (inner_phrase brackets) (others_at brackets) (apart_at brackets)) ts l rest e
 
 pub added_shorter : (brackets : ℕ) (ts : List Token) (i : Index) (rest : List Token) → past (codes "+") (index_product_by (index_inner brackets)) ts ≡ Ok (i, rest) → length rest < length ts
 added_shorter brackets ts i rest e =
     shorter (says (codes "+")) (reads_after (codes "+") (reads_index_product (index_inner brackets) (inner_phrase brackets) (others_at brackets) (apart_at brackets)))
-        (after_begins (codes "+") (index_product (inner_phrase brackets))) ts i rest e
+    (after_begins (codes "+") (index_product (inner_phrase brackets))) ts i rest e
 
 -- the reader of sums, by what stands in parentheses
 pub index_sum_is : (brackets : ℕ) (ts : List Token) → index_sum_at brackets ts ≡ index_sum_by (index_inner brackets) ts

@@ -147,7 +147,7 @@ module _ {A : Type 0} (f : List A → A) (symbol : List ℕ) (reader : Reader A)
   some_by zero (t ∷ ts) xs rest le some e = absurd (omega (arith, le))
   some_by (suc n) mid xs rest le some e =
       let x = bind_ok (past symbol reader mid) (λ x. repeats (says symbol) (past symbol reader) n x.1 >>= (λ y. read (List A) (x.0 ∷ y.0, y.1))) (xs, rest)
-          (sym (turn_is (says symbol) (past symbol reader) n mid some) ∙ e) in
+      (sym (turn_is (says symbol) (past symbol reader) n mid some) ∙ e) in
       let y = bind_ok (repeats (says symbol) (past symbol reader) n x.0.1) (λ y. read (List A) (x.0.0 ∷ y.0, y.1)) (xs, rest) x.2 in
       (x.0.0, y.0.0, sym (ap (λ (z : List A × List Token). z.0) (ok_same (List A) (x.0.0 ∷ y.0.0, y.0.1) (xs, rest) y.2)))
 

@@ -317,7 +317,7 @@ module _ {A : Type 0} {reader : Reader A} {phrase : Phrase A} {goes_on : Token �
       absurd cc
   dead_by taken (t ∷ ts) fails = λ more a spelled.
       let e = sym (all_only ((taken ++ t ∷ []) ++ more) a spelled)
-          ∙ ap (λ (l : List Token). finished (reader l)) (append_assoc taken (t ∷ []) more) ∙ fails (t ∷ more) refl in
+      ∙ ap (λ (l : List Token). finished (reader l)) (append_assoc taken (t ∷ []) more) ∙ fails (t ∷ more) refl in
       absurd cc
 
   left_over : (a : A) (t : Token) (ts other : List Token) → SameHead (t ∷ ts) other → with_none_left a other ≡ Err other

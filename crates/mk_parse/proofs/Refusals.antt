@@ -60,17 +60,20 @@ module _ (text : List ℕ) (tokens : List Token) (end : Place) (whole : Bool) (l
   no_fit at taken (b ∷ bs) stuck dead = λ t rest parts is_token same goes_on. stuck t.text rest parts is_token
 
   pub not_whole : (p : Program) → whole ≡ false → finished (program_by (map (seen text) tokens)) ≡ Ok p → IsRefusedAt text end × ((q : Program) → Spells q text → ⊥)
-  not_whole p isnt e = (record {
-    tokens = map (seen text) tokens;
-    gap = lexed.gap;
-    here = lexed.here;
-    before = lexed.before;
-    is_gap = lexed.is_gap;
-    begins = lexed.begins;
-    place = lexed.place;
-    goes_on = ([], p, subst (λ (ts : List Spelled). program ts p) (sym (append-nil (map (seen text) tokens))) (all_found reads_program (map (seen text) tokens) p e));
-    stuck = no_fit end (map (seen text) tokens) lexed.here lexed.stuck (λ none. absurd (false≢true (sym isnt ∙ lexed.ended.1 none)));
-  }, λ q h. false≢true (sym isnt ∙ (one_list h.0 h.1).1))
+  not_whole p isnt e = (
+    record {
+      tokens = map (seen text) tokens;
+      gap = lexed.gap;
+      here = lexed.here;
+      before = lexed.before;
+      is_gap = lexed.is_gap;
+      begins = lexed.begins;
+      place = lexed.place;
+      goes_on = ([], p, subst (λ (ts : List Spelled). program ts p) (sym (append-nil (map (seen text) tokens))) (all_found reads_program (map (seen text) tokens) p e));
+      stuck = no_fit end (map (seen text) tokens) lexed.here lexed.stuck (λ none. absurd (false≢true (sym isnt ∙ lexed.ended.1 none)));
+    },
+    λ q h. false≢true (sym isnt ∙ (one_list h.0 h.1).1),
+  )
 
   -- the place of the first token that doesn't fit, or of the end
   refused_by : (taken bad : List Spelled) (more : List Spelled) (value : Program) → map (seen text) tokens ≡ taken ++ bad → program (taken ++ more) value → IsDead reads_program taken bad
@@ -108,6 +111,7 @@ module _ (text : List ℕ) (tokens : List Token) (end : Place) (whole : Bool) (l
 
   pub refused_at : (bad : List Spelled) → finished (program_by (map (seen text) tokens)) ≡ Err bad → IsRefusedAt text (place_at end bad) × ((q : Program) → Spells q text → ⊥)
   refused_at bad e =
-      let stuck = all_stuck reads_program (map (seen text) tokens) bad e in
-      (refused_by stuck.taken bad stuck.more stuck.value stuck.parts stuck.completed stuck.dead,
-        λ q h. no_program stuck.taken bad stuck.parts stuck.dead q (subst (λ (ts : List Spelled). program ts q) (one_list h.0 h.1).0 h.2))
+      let stuck = all_stuck reads_program (map (seen text) tokens) bad e in (
+        refused_by stuck.taken bad stuck.more stuck.value stuck.parts stuck.completed stuck.dead,
+        λ q h. no_program stuck.taken bad stuck.parts stuck.dead q (subst (λ (ts : List Spelled). program ts q) (one_list h.0 h.1).0 h.2),
+      )

@@ -87,7 +87,7 @@ reads_statement (suc brackets) =
     let block = reads_after (codes "{") (reads_until (codes "}") body closing_stops) in
     let whole = reads_made looped (reads_and reads_heading block (λ back n rest h s. stops_never (back ++ rest))) in
     reads_same (reads_or (says (codes "for")) never whole (loop_is brackets) (λ t e. refl) (reads_assignment (suc brackets)) (assignment_apart (suc brackets)) (λ t e. e))
-        (λ ts s h. turned ts s h) (λ ts s h. turned_back ts s h)
+    (λ ts s h. turned ts s h) (λ ts s h. turned_back ts s h)
   where
     turned : (ts : List Token) (s : Stmt) → (loop brackets or assignment (suc brackets)) ts s → (assignment (suc brackets) or loop brackets) ts s
     turned ts s (inl h) = inr h
@@ -122,9 +122,9 @@ PlainClass t c = Means (codes "secret") class_.Secret t c ⊎ (Means (codes "pub
 
 plain_sound : (t : Token) (c : Class) → plain_class t ≡ Some c → PlainClass t c
 plain_sound t c e = elim (one_word (codes "secret") class_.Secret t _ c e) [
-  inl h ↦ inl h
+  | inl h ↦ inl h
   | inr k ↦ elim (one_word (codes "public") class_.Public t _ c k) [
-    inl h ↦ inr (inl h)
+    | inl h ↦ inr (inl h)
     | inr l ↦ elim (one_word (codes "output") class_.Output t None c l) [ inl h ↦ inr (inr h) | inr wrong ↦ absurd (let none = wrong in cc) ]
   ]
 ]
@@ -142,7 +142,7 @@ LocalClass t c = Means (codes "secret") class_.LocalSecret t c ⊎ Means (codes 
 
 local_sound : (t : Token) (c : Class) → local_class t ≡ Some c → LocalClass t c
 local_sound t c e = elim (one_word (codes "secret") class_.LocalSecret t _ c e) [
-  inl h ↦ inl h
+  | inl h ↦ inl h
   | inr k ↦ elim (one_word (codes "public") class_.LocalPublic t None c k) [ inl h ↦ inr h | inr wrong ↦ absurd (let none = wrong in cc) ]
 ]
 
@@ -179,9 +179,9 @@ plain_is = one_begins begins_plain PlainClass passes
 plain_other : (word : List ℕ) (t : Token) → bytes_eq (codes "secret") word ≡ false → bytes_eq (codes "public") word ≡ false → bytes_eq (codes "output") word ≡ false
     → begins_plain t ≡ true → says word t ≡ false
 plain_other word t p q r e = elim (or_cases (says (codes "secret") t) _ e) [
-  inl h ↦ says_other (codes "secret") word t (says_is (codes "secret") t h) p
+  | inl h ↦ says_other (codes "secret") word t (says_is (codes "secret") t h) p
   | inr k ↦ elim (or_cases (says (codes "public") t) _ k) [
-    inl h ↦ says_other (codes "public") word t (says_is (codes "public") t h) q
+    | inl h ↦ says_other (codes "public") word t (says_is (codes "public") t h) q
     | inr h ↦ says_other (codes "output") word t (says_is (codes "output") t h) r
   ]
 ]
@@ -189,12 +189,12 @@ plain_other word t p q r e = elim (or_cases (says (codes "secret") t) _ e) [
 reads_class : Reads class_by class never
 reads_class =
     let locals : Reads (takes local_class) (one LocalClass) never =
-        reads_token local_class LocalClass local_sound local_complete (token_of (codes "secret")) class_.LocalSecret (inl (refl, refl)) in
+    reads_token local_class LocalClass local_sound local_complete (token_of (codes "secret")) class_.LocalSecret (inl (refl, refl)) in
     let plains : Reads (takes plain_class) (one PlainClass) never =
-        reads_token plain_class PlainClass plain_sound plain_complete (token_of (codes "secret")) class_.Secret (inl (refl, refl)) in
+    reads_token plain_class PlainClass plain_sound plain_complete (token_of (codes "secret")) class_.Secret (inl (refl, refl)) in
     reads_same (reads_or (says (codes "local")) never (reads_after (codes "local") locals) (after_begins (codes "local") (one LocalClass)) (λ t e. refl) plains
-            (λ back c rest h s. apart_by (says (codes "local")) begins_plain (one PlainClass) plain_is (λ t e. plain_other (codes "local") t refl refl refl e) back c rest h) (λ t e. e))
-        class_to class_from
+    (λ back c rest h s. apart_by (says (codes "local")) begins_plain (one PlainClass) plain_is (λ t e. plain_other (codes "local") t refl refl refl e) back c rest h) (λ t e. e))
+    class_to class_from
 
 abbrev begins_class : Token → Bool
 begins_class t = says (codes "secret") t || (says (codes "public") t || (says (codes "output") t || says (codes "local") t))
@@ -204,9 +204,9 @@ class_is ts c h = by ts c (class_from ts c h)
   where
     plain : (t : Token) → begins_plain t ≡ true → begins_class t ≡ true
     plain t e = elim (or_cases (says (codes "secret") t) _ e) [
-      inl h ↦ or_left (says (codes "secret") t) _ h
+      | inl h ↦ or_left (says (codes "secret") t) _ h
       | inr k ↦ or_right (says (codes "secret") t) _ (elim (or_cases (says (codes "public") t) _ k) [
-        inl h ↦ or_left (says (codes "public") t) _ h
+        | inl h ↦ or_left (says (codes "public") t) _ h
         | inr h ↦ or_right (says (codes "public") t) _ (or_left (says (codes "output") t) (says (codes "local") t) h)
       ])
     ]
@@ -219,11 +219,11 @@ class_is ts c h = by ts c (class_from ts c h)
 class_other : (word : List ℕ) (t : Token) → bytes_eq (codes "secret") word ≡ false → bytes_eq (codes "public") word ≡ false → bytes_eq (codes "output") word ≡ false
     → bytes_eq (codes "local") word ≡ false → begins_class t ≡ true → says word t ≡ false
 class_other word t p q r l e = elim (or_cases (says (codes "secret") t) _ e) [
-  inl h ↦ says_other (codes "secret") word t (says_is (codes "secret") t h) p
+  | inl h ↦ says_other (codes "secret") word t (says_is (codes "secret") t h) p
   | inr k ↦ elim (or_cases (says (codes "public") t) _ k) [
-    inl h ↦ says_other (codes "public") word t (says_is (codes "public") t h) q
+    | inl h ↦ says_other (codes "public") word t (says_is (codes "public") t h) q
     | inr k ↦ elim (or_cases (says (codes "output") t) _ k) [
-      inl h ↦ says_other (codes "output") word t (says_is (codes "output") t h) r
+      | inl h ↦ says_other (codes "output") word t (says_is (codes "output") t h) r
       | inr h ↦ says_other (codes "local") word t (says_is (codes "local") t h) l
     ]
   ]
@@ -252,7 +252,7 @@ size_phrase = optional (after (codes "[") (until (codes "]") size))
 reads_size_part : Reads size_part size_phrase (says (codes "["))
 reads_size_part =
     reads_optional (says (codes "[")) (says (codes "[")) (reads_after (codes "[") (reads_until (codes "]") reads_size (λ t is. refl)))
-        (after_begins (codes "[") (until (codes "]") size)) (λ t e. refl) (λ t e. e)
+    (after_begins (codes "[") (until (codes "]") size)) (λ t e. refl) (λ t e. e)
 
 abbrev variable_made : Class × ((List ℕ × Place) × Option ℕ) → Decl
 variable_made x = record { name = x.1.0.0; at = x.1.0.1; what = what.Var x.0 x.1.1 }
@@ -269,8 +269,8 @@ variable_is = made_begins begins_class variable_made _ (and_begins begins_class 
 pub reads_declaration : Reads declaration_by declaration never
 reads_declaration =
     reads_or (says (codes "map")) never reads_map map_is (λ t e. refl) reads_variable
-        (λ back d rest h s. apart_by (says (codes "map")) begins_class variable_declaration variable_is (λ t e. class_other (codes "map") t refl refl refl refl e) back d rest h)
-        (λ t e. e)
+    (λ back d rest h s. apart_by (says (codes "map")) begins_class variable_declaration variable_is (λ t e. class_other (codes "map") t refl refl refl refl e) back d rest h)
+    (λ t e. e)
 
 declaration_is : BeginsBy begins_declaration declaration
 declaration_is ts d (inl h) = let b = map_is ts d h in (b.0, b.1, b.2, or_left (says (codes "map") b.0) (begins_class b.0) b.3)
@@ -283,7 +283,7 @@ FieldWord t f = Means (codes "gf2") Gf2 t f ⊎ Means (codes "gf256") Gf256 t f
 
 field_sound : (t : Token) (f : FieldId) → field_of t ≡ Some f → FieldWord t f
 field_sound t f e = elim (one_word (codes "gf2") Gf2 t _ f e) [
-  inl h ↦ inl h
+  | inl h ↦ inl h
   | inr k ↦ elim (one_word (codes "gf256") Gf256 t None f k) [ inl h ↦ inr h | inr wrong ↦ absurd (let none = wrong in cc) ]
 ]
 
@@ -312,12 +312,17 @@ more_program t = begins_statement t || begins_declaration t
 declaration_or_not : (t : Token) → begins_statement t ≡ true → begins_declaration t ≡ false
 unfolding is_among all_go_on
 declaration_or_not t e = elim (or_cases (says (codes "for") t) (is_name t) e) [
-  inl h ↦ (
-    let is = says_is (codes "for") t h in
-    rw (says_other (codes "for") (codes "map") t is refl, says_other (codes "for") (codes "secret") t is refl, says_other (codes "for") (codes "public") t is refl,
-      says_other (codes "for") (codes "output") t is refl, says_other (codes "for") (codes "local") t is refl) refl)
+  | inl h ↦ (
+      let is = says_is (codes "for") t h in
+      rw (
+        says_other (codes "for") (codes "map") t is refl,
+        says_other (codes "for") (codes "secret") t is refl,
+        says_other (codes "for") (codes "public") t is refl,
+        says_other (codes "for") (codes "output") t is refl,
+        says_other (codes "for") (codes "local") t is refl,
+      ) refl)
   | inr h ↦
-    rw (name_says (codes "map") t h refl, name_says (codes "secret") t h refl, name_says (codes "public") t h refl, name_says (codes "output") t h refl, name_says (codes "local") t h refl) refl
+      rw (name_says (codes "map") t h refl, name_says (codes "secret") t h refl, name_says (codes "public") t h refl, name_says (codes "output") t h refl, name_says (codes "local") t h refl) refl
 ]
 
 declarations_end : (back : List Token) (xs : List Stmt) (rest : List Token) → many (statement most_brackets) back xs → Stops more_program rest → Stops begins_declaration (back ++ rest)
@@ -339,7 +344,7 @@ reads_program =
     let head = reads_after (codes "field") (reads_until (codes ";") reads_field (λ t is. refl)) in
     let declarations = reads_many begins_declaration begins_declaration reads_declaration declaration_is (λ t e. refl) (λ t e. e) (λ t e. refl) in
     let body = reads_many begins_statement more_program (reads_statement most_brackets) (statement_is most_brackets) (λ t e. refl)
-        (λ t e. (or_parts (begins_statement t) (begins_declaration t) e).0) (λ t e. refl) in
+    (λ t e. (or_parts (begins_statement t) (begins_declaration t) e).0) (λ t e. refl) in
     reads_made program_made (reads_and head (reads_and declarations body declarations_end) (λ back n rest h s. stops_never (back ++ rest)))
 
 -- ---- what the loops of the parser read takes tokens

@@ -121,7 +121,7 @@ pub number_complete : (t : Token) (n : ℕ) → IsNumber n t.text → number_of 
 unfolding number_text
 number_complete t n h =
     below_complete 65536 (λ n. bytes_eq t.text (decimal n)) n ((bytes_eq-Decides t.text (decimal n)).1 h.0) (omega (arith, h.1))
-        (λ m below e. number_unique m n t.text ((bytes_eq-Decides t.text (decimal m)).0 e, omega (arith, below)) h)
+    (λ m below e. number_unique m n t.text ((bytes_eq-Decides t.text (decimal m)).0 e, omega (arith, below)) h)
 
 -- the first byte of a number is a digit
 pub number_first : (t : Token) (n : ℕ) → IsNumber n t.text → (b : ℕ) × (bs : List ℕ) × (t.text ≡ b ∷ bs) × (is_ascii_digit b ≡ true)

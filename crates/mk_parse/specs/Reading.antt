@@ -101,7 +101,7 @@ guarded (suc brackets) reader = reader
 abbrev pub index_factor_by : Reader Index → Reader Index
 index_factor_by inner =
     chosen (gives number_of) (makes index.Num (takes number_of))
-        (chosen is_name (makes (λ x. index.Var x.0 x.1) (takes name_of)) inner)
+    (chosen is_name (makes (λ x. index.Var x.0 x.1) (takes name_of)) inner)
 
 abbrev pub index_link_by : Reader Index → Reader Link
 index_link_by inner =
@@ -144,7 +144,7 @@ reference_at brackets = makes (λ x. reference_of x.0 x.1) (takes name_of next i
 abbrev pub after_name : ℕ → Reader Expr → Reader (List ℕ × Place → Expr)
 after_name brackets inner =
     chosen (says (codes "(")) (makes (λ e name. expr.Apply name.0 name.1 e) inner)
-        (makes (λ i name. expr.Read (reference_of name i)) (index_part brackets))
+    (makes (λ i name. expr.Read (reference_of name i)) (index_part brackets))
 
 abbrev pub named : ℕ → Reader Expr → Reader Expr
 named brackets inner = makes (λ x. x.1 x.0) (takes name_of next after_name brackets inner)
@@ -152,8 +152,8 @@ named brackets inner = makes (λ x. x.1 x.0) (takes name_of next after_name brac
 abbrev pub factor_by : ℕ → Reader Expr → Reader Expr
 factor_by brackets inner =
     chosen (gives element_of) (makes (λ x. expr.Lit x.0 x.1) (takes element_of))
-        (chosen (says (codes "sq")) (guarded brackets (makes expr.Sq (past (codes "sq") inner)))
-            (chosen is_name (named brackets inner) inner))
+    (chosen (says (codes "sq")) (guarded brackets (makes expr.Sq (past (codes "sq") inner)))
+    (chosen is_name (named brackets inner) inner))
 
 abbrev pub product_by : ℕ → Reader Expr → Reader Expr
 product_by brackets inner = makes (several expr.Product) (parted (codes "*") (factor_by brackets inner))
@@ -185,15 +185,15 @@ unfoldable pub statement_at : ℕ → Reader Stmt
 statement_at zero = chosen (says (codes "for")) fails (assignment_at zero)
 statement_at (suc brackets) =
     chosen (says (codes "for"))
-        (makes (λ x. stmt.Loop x.0.0.0 x.0.0.1 x.0.1.0 x.0.1.1 x.1)
-            (heading_by next past (codes "{") (ended (codes "}") (every begins_statement (statement_at brackets)))))
-        (assignment_at (suc brackets))
+    (makes (λ x. stmt.Loop x.0.0.0 x.0.0.1 x.0.1.0 x.0.1.1 x.1)
+    (heading_by next past (codes "{") (ended (codes "}") (every begins_statement (statement_at brackets)))))
+    (assignment_at (suc brackets))
 
 abbrev pub loop_at : ℕ → Reader Stmt
 loop_at zero = fails
 loop_at (suc brackets) =
     makes (λ x. stmt.Loop x.0.0.0 x.0.0.1 x.0.1.0 x.0.1.1 x.1)
-        (heading_by next past (codes "{") (ended (codes "}") (every begins_statement (statement_at brackets))))
+    (heading_by next past (codes "{") (ended (codes "}") (every begins_statement (statement_at brackets))))
 
 -- ---- declarations and programs
 
@@ -220,7 +220,7 @@ images_by = parted (codes ",") image_by
 abbrev pub map_by : Reader Decl
 map_by =
     makes (λ x. record { name = x.0.0; at = x.0.1; what = what.Map x.1 })
-        (past (codes "map") (takes name_of next past (codes "=") (ended (codes ";") images_by)))
+    (past (codes "map") (takes name_of next past (codes "=") (ended (codes ";") images_by)))
 
 abbrev pub size_part : Reader (Option ℕ)
 size_part = perhaps (says (codes "[")) (past (codes "[") (ended (codes "]") (takes size_of)))
@@ -228,7 +228,7 @@ size_part = perhaps (says (codes "[")) (past (codes "[") (ended (codes "]") (tak
 abbrev pub variable_by : Reader Decl
 variable_by =
     makes (λ x. record { name = x.1.0.0; at = x.1.0.1; what = what.Var x.0 x.1.1 })
-        (class_by next ended (codes ";") (takes name_of next size_part))
+    (class_by next ended (codes ";") (takes name_of next size_part))
 
 abbrev pub declaration_by : Reader Decl
 declaration_by = chosen (says (codes "map")) map_by variable_by
@@ -243,5 +243,5 @@ field_of t = if says (codes "gf2") t then Some Gf2 else (if says (codes "gf256")
 abbrev pub program_by : Reader Program
 program_by =
     makes (λ x. record { field = x.0; decls = x.1.0; body = x.1.1 })
-        (past (codes "field") (ended (codes ";") (takes field_of))
-        next every begins_declaration declaration_by next every begins_statement (statement_at most_brackets))
+    (past (codes "field") (ended (codes ";") (takes field_of))
+    next every begins_declaration declaration_by next every begins_statement (statement_at most_brackets))

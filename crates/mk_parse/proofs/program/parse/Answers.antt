@@ -16,20 +16,20 @@ returns-then-not-whole c =
     let text = c.args.text.now in
     let tokens = c.new-cursor.ensures ∙ ap (map (seen text)) c.as_slice.ensures.items in
     not_whole text c.in_ok-tokens.field-0.tokens c.in_ok-tokens.field-0.end c.in_ok-tokens.field-0.whole c.in_ok-tokens.ensures c.in-Ok.program c.if-not-whole.true
-        (ap (λ (ts : List Spelled). finished (program_by ts)) (sym tokens) ∙ c.in-Ok.ensures)
+    (ap (λ (ts : List Spelled). finished (program_by ts)) (sym tokens) ∙ c.in-Ok.ensures)
 
 pub returns-in-Ok : goal.returns-in-Ok
 returns-in-Ok c =
     let text = c.args.text.now in
     let tokens = c.new-cursor.ensures ∙ ap (map (seen text)) c.as_slice.ensures.items in
     only_program text c.in_ok-tokens.field-0.tokens c.in_ok-tokens.field-0.end c.in_ok-tokens.field-0.whole c.in_ok-tokens.ensures c.in-Ok.program c.if-not-whole.false
-        (ap (λ (ts : List Spelled). finished (program_by ts)) (sym tokens) ∙ c.in-Ok.ensures)
+    (ap (λ (ts : List Spelled). finished (program_by ts)) (sym tokens) ∙ c.in-Ok.ensures)
 
 pub returns-in-Err-Here : goal.returns-in-Err-Here
 returns-in-Err-Here c =
     let text = c.args.text.now in
     let tokens = c.new-cursor.ensures ∙ ap (map (seen text)) c.as_slice.ensures.items in
     subst (λ (at : Place). IsRefusedAt text at × ((p : Program) → Spells p text → ⊥)) (sym c.place.ensures)
-        (refused_at text c.in_ok-tokens.field-0.tokens c.in_ok-tokens.field-0.end c.in_ok-tokens.field-0.whole c.in_ok-tokens.ensures c.whole_program.new.self
-            (ap (λ (ts : List Spelled). finished (program_by ts)) (sym tokens)
-                ∙ subst (λ (s : Stop). AnswersAll {A = Program} (Err s) c.whole_program.new.self (finished (program_by c.new-cursor.result))) c.in-Err-Here.field-0-is c.in-Err-Here.ensures))
+    (refused_at text c.in_ok-tokens.field-0.tokens c.in_ok-tokens.field-0.end c.in_ok-tokens.field-0.whole c.in_ok-tokens.ensures c.whole_program.new.self
+    (ap (λ (ts : List Spelled). finished (program_by ts)) (sym tokens)
+    ∙ subst (λ (s : Stop). AnswersAll {A = Program} (Err s) c.whole_program.new.self (finished (program_by c.new-cursor.result))) c.in-Err-Here.field-0-is c.in-Err-Here.ensures))

@@ -39,7 +39,7 @@ decreases-index_links-loop-links l = length l.self
 abbrev pub invariant-index_parts-loop-parts : goal.invariant-index_parts-loop-parts
 invariant-index_parts-loop-parts l =
     Going (says (codes "+")) (past (codes "+") (index_product_by (index_inner l.brackets))) l.parts l.self
-        (makes (λ parts. l.fn.first ∷ parts) (every (says (codes "+")) (past (codes "+") (index_product_by (index_inner l.brackets)))) l.fn.self)
+    (makes (λ parts. l.fn.first ∷ parts) (every (says (codes "+")) (past (codes "+") (index_product_by (index_inner l.brackets)))) l.fn.self)
 
 abbrev pub decreases-index_parts-loop-parts : goal.decreases-index_parts-loop-parts
 decreases-index_parts-loop-parts l = length l.self

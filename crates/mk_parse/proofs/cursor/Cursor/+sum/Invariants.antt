@@ -37,7 +37,7 @@ decreases-sum_in_brackets l = 10 * l.brackets
 abbrev pub invariant-factors-loop-parts : goal.invariant-factors-loop-parts
 invariant-factors-loop-parts l =
     Going (says (codes "*")) (past (codes "*") (factor_by l.brackets (sum_inner l.brackets))) l.parts l.self
-        (makes (λ parts. l.fn.first ∷ parts) (every (says (codes "*")) (past (codes "*") (factor_by l.brackets (sum_inner l.brackets)))) l.fn.self)
+    (makes (λ parts. l.fn.first ∷ parts) (every (says (codes "*")) (past (codes "*") (factor_by l.brackets (sum_inner l.brackets)))) l.fn.self)
 
 abbrev pub decreases-factors-loop-parts : goal.decreases-factors-loop-parts
 decreases-factors-loop-parts l = length l.self
@@ -45,7 +45,7 @@ decreases-factors-loop-parts l = length l.self
 abbrev pub invariant-products-loop-parts : goal.invariant-products-loop-parts
 invariant-products-loop-parts l =
     Going (says (codes "+")) (past (codes "+") (product_by l.brackets (sum_inner l.brackets))) l.parts l.self
-        (makes (λ parts. l.fn.first ∷ parts) (every (says (codes "+")) (past (codes "+") (product_by l.brackets (sum_inner l.brackets)))) l.fn.self)
+    (makes (λ parts. l.fn.first ∷ parts) (every (says (codes "+")) (past (codes "+") (product_by l.brackets (sum_inner l.brackets)))) l.fn.self)
 
 abbrev pub decreases-products-loop-parts : goal.decreases-products-loop-parts
 decreases-products-loop-parts l = length l.self

@@ -10,8 +10,8 @@ returns-in_err-next_image c =
     let reader = past (codes ",") image_by in
     let some = sym c.next_is.ensures ∙ c.loop-images-test.true in
     passed _ c.from_residual-in_err-next_image.result c.next_image.new.self (reader c.loop-images.self) (images_by c.args.self.now) c.from_residual-in_err-next_image.ensures.1
-        (λ bad e. parted_is (codes ",") image_by c.args.self.now c.in_ok-first.first c.image.new.self c.in_ok-first.ensures
-            ∙ going_stuck (says (codes ",")) reader c.loop-images.images c.loop-images.self bad _ c.loop-images.invariant some e) c.in_err-next_image.ensures
+    (λ bad e. parted_is (codes ",") image_by c.args.self.now c.in_ok-first.first c.image.new.self c.in_ok-first.ensures
+    ∙ going_stuck (says (codes ",")) reader c.loop-images.images c.loop-images.self bad _ c.loop-images.invariant some e) c.in_err-next_image.ensures
 
 pub loop-images-preserved : goal.loop-images-preserved
 loop-images-preserved c =
@@ -19,8 +19,8 @@ loop-images-preserved c =
     let some = sym c.next_is.ensures ∙ c.loop-images-test.true in
     let total = makes (λ (images : List ℕ). c.in_ok-first.first ∷ images) (every (says (codes ",")) reader) c.image.new.self in
     subst (λ (front : List ℕ). Going (says (codes ",")) reader front c.next_image.new.self total) (sym (c.in_ok-push-2.ensures).ok)
-        (going_turn (says (codes ",")) reader c.loop-images.images c.loop-images.self c.in_ok-next_image.field-0 c.next_image.new.self total c.loop-images.invariant some c.in_ok-next_image.ensures
-            (image_shorter c.loop-images.self c.in_ok-next_image.field-0 c.next_image.new.self c.in_ok-next_image.ensures))
+    (going_turn (says (codes ",")) reader c.loop-images.images c.loop-images.self c.in_ok-next_image.field-0 c.next_image.new.self total c.loop-images.invariant some c.in_ok-next_image.ensures
+    (image_shorter c.loop-images.self c.in_ok-next_image.field-0 c.next_image.new.self c.in_ok-next_image.ensures))
 
 pub returns : goal.returns
 returns c =
