@@ -10,18 +10,19 @@ use Rattle.mk_ast.specs.declared.tree.Ref.{Ref}
 use Rattle.mk_ast.specs.declared.tree.Expr.{Expr}
 use Rattle.mk_ast.specs.declared.tree.Expr.TheVariants as expr
 use Rattle.mk_ast.specs.declared.tree.Expr.TheOpen.{Expr-F}
-use Rattle.mk_ast.specs.declared.tree.Expr.TheFolds.{para-roll-Expr}
+use Rattle.mk_ast.specs.declared.tree.Expr.TheFolds.{para-roll-Expr, fold-roll-Expr}
 use Rattle.mk_ast.specs.declared.tree.Expr.TheViews as expr_views
 use Rattle.mk_ast.specs.declared.tree.Index.{Index}
 use Rattle.mk_ast.specs.declared.tree.Index.TheVariants as index
 use Rattle.mk_ast.specs.declared.tree.Index.TheOpen.{Index-F, Link-F}
-use Rattle.mk_ast.specs.declared.tree.Index.TheFolds.{para-roll-Index, para-roll-Link}
+use Rattle.mk_ast.specs.declared.tree.Index.TheFolds.{para-roll-Index, para-roll-Link, fold-Link, fold-roll-Index, fold-roll-Link}
 use Rattle.mk_ast.specs.declared.tree.Index.TheViews as index_views
 use Rattle.mk_ast.specs.declared.tree.Link.{Link}
 use Rattle.mk_ast.specs.declared.tree.Link.TheVariants as link
 use Rattle.mk_ast.specs.Canonical.{joined, index_layer_text, link_layer_text, index_text, link_text, index_product_text, index_factor_text, element_text, parenthesized, reference_text, expr_layer_text, expr_text, product_text, factor_text, ended, indent, laid, assignment_line, head_line, stmt_layer_lines, stmt_lines}
 use Rattle.std.proofs.lemmas.List.{append-nil}
 use Rattle.std.proofs.lemmas.List.Folds.{flat_map-map}
+use Rattle.mk_ast.specs.Places.{nowhere, placeless_index_layer, placeless_link_layer, placeless_index, placeless_ref, placeless_expr_layer, placeless_expr, placeless_stmt_layer, placeless_stmt}
 use Rattle.mk_ast.proofs.Joined.{map_map, laid_in, laid-append}
 
 -- the texts of indexes
@@ -119,3 +120,64 @@ laid-Loop loops name at from to body =
     ∙ λ i. laid_in loops (flat_map stmt_lines body) i ++ append-nil (indent loops ++ ended (codes "}")) i)
 
 pub ruleset stmt_texts = (append_assoc, laid-Set, laid-Loop)
+
+-- a link apart from places
+abbrev pub placeless_link : Link → Link
+placeless_link = fold-Link Index Link placeless_index_layer placeless_link_layer
+
+-- indexes apart from places
+pub placeless_index-Num : (n : ℕ) → placeless_index (index.Num n) ≡ index.Num n
+placeless_index-Num n =
+    ap placeless_index (sym (index_views.rolls-Num n)) ∙ fold-roll-Index Index Link placeless_index_layer placeless_link_layer (Index-F.Num n)
+
+pub placeless_index-Var : (name : List ℕ) (at : Place) → placeless_index (index.Var name at) ≡ index.Var name nowhere
+placeless_index-Var name at =
+    ap placeless_index (sym (index_views.rolls-Var name at))
+    ∙ fold-roll-Index Index Link placeless_index_layer placeless_link_layer (Index-F.Var name at)
+
+pub placeless_index-Sum : (parts : List Index) → placeless_index (index.Sum parts) ≡ index.Sum (map placeless_index parts)
+placeless_index-Sum parts =
+    ap placeless_index (sym (index_views.rolls-Sum parts)) ∙ fold-roll-Index Index Link placeless_index_layer placeless_link_layer (Index-F.Sum parts)
+
+pub placeless_index-Chain : (first : Index) (links : List Link) →
+    placeless_index (index.Chain first links) ≡ index.Chain (placeless_index first) (map placeless_link links)
+placeless_index-Chain first links =
+    ap placeless_index (sym (index_views.rolls-Chain first links))
+    ∙ fold-roll-Index Index Link placeless_index_layer placeless_link_layer (Index-F.Chain first links)
+
+pub placeless_link-Times : (by : Index) → placeless_link (link.Times by) ≡ link.Times (placeless_index by)
+placeless_link-Times by =
+    ap placeless_link (sym (index_views.rolls-Times by)) ∙ fold-roll-Link Index Link placeless_index_layer placeless_link_layer (Link-F.Times by)
+
+-- expressions apart from places
+pub placeless_expr-Lit : (value : ℕ) (at : Place) → placeless_expr (expr.Lit value at) ≡ expr.Lit value nowhere
+placeless_expr-Lit value at = ap placeless_expr (sym (expr_views.rolls-Lit value at)) ∙ fold-roll-Expr Expr placeless_expr_layer (Expr-F.Lit value at)
+
+pub placeless_expr-Read : (from : Ref) → placeless_expr (expr.Read from) ≡ expr.Read (placeless_ref from)
+placeless_expr-Read from = ap placeless_expr (sym (expr_views.rolls-Read from)) ∙ fold-roll-Expr Expr placeless_expr_layer (Expr-F.Read from)
+
+pub placeless_expr-Sq : (arg : Expr) → placeless_expr (expr.Sq arg) ≡ expr.Sq (placeless_expr arg)
+placeless_expr-Sq arg = ap placeless_expr (sym (expr_views.rolls-Sq arg)) ∙ fold-roll-Expr Expr placeless_expr_layer (Expr-F.Sq arg)
+
+pub placeless_expr-Apply : (name : List ℕ) (at : Place) (arg : Expr) →
+    placeless_expr (expr.Apply name at arg) ≡ expr.Apply name nowhere (placeless_expr arg)
+placeless_expr-Apply name at arg =
+    ap placeless_expr (sym (expr_views.rolls-Apply name at arg)) ∙ fold-roll-Expr Expr placeless_expr_layer (Expr-F.Apply name at arg)
+
+pub placeless_expr-Sum : (parts : List Expr) → placeless_expr (expr.Sum parts) ≡ expr.Sum (map placeless_expr parts)
+placeless_expr-Sum parts = ap placeless_expr (sym (expr_views.rolls-Sum parts)) ∙ fold-roll-Expr Expr placeless_expr_layer (Expr-F.Sum parts)
+
+pub placeless_expr-Product : (parts : List Expr) → placeless_expr (expr.Product parts) ≡ expr.Product (map placeless_expr parts)
+placeless_expr-Product parts =
+    ap placeless_expr (sym (expr_views.rolls-Product parts)) ∙ fold-roll-Expr Expr placeless_expr_layer (Expr-F.Product parts)
+
+-- statements apart from places
+pub placeless_stmt-Set : (target : Ref) (value : Expr) → placeless_stmt (stmt.Set target value) ≡ stmt.Set (placeless_ref target) (placeless_expr value)
+placeless_stmt-Set target value =
+    ap placeless_stmt (sym (stmt_views.rolls-Set target value)) ∙ fold-roll-Stmt Stmt placeless_stmt_layer (Stmt-F.Set target value)
+
+pub placeless_stmt-Loop : (name : List ℕ) (at : Place) (from to : ℕ) (body : List Stmt) →
+    placeless_stmt (stmt.Loop name at from to body) ≡ stmt.Loop name nowhere from to (map placeless_stmt body)
+placeless_stmt-Loop name at from to body =
+    ap placeless_stmt (sym (stmt_views.rolls-Loop name at from to body))
+    ∙ fold-roll-Stmt Stmt placeless_stmt_layer (Stmt-F.Loop name at from to body)

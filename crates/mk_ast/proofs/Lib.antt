@@ -1,3 +1,10 @@
+pub mod Induction
+pub mod ExprReading
+pub mod IndexReading
 pub mod Joined
 pub mod Layers
+pub mod ProgramReading
+pub mod Reading
 pub mod RegularLayers
+pub mod StmtReading
+pub mod TokenTexts

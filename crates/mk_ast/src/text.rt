@@ -2,6 +2,9 @@ ghost use Rattle.std.specs.Prelude.{◌≡◌, ◌==◌, ◌≤◌, ◌-◌, [],
 ghost use Rattle.std.specs.List.{AllByRecursion};
 ghost use Rattle.mk_ast.specs.Grammar.{most_brackets};
 ghost use Rattle.mk_ast.specs.Regular.{IsRegularStmt, IsRegular};
+ghost use Rattle.mk_ast.specs.Spells.{Spells};
+ghost use Rattle.mk_ast.specs.Places.{AreAlike};
+ghost use Rattle.mk_ast.specs.declared.tree.Program.{Program};
 ghost use Rattle.mk_ast.specs.Canonical.{canonical, decl_line, joined, ended, laid, stmt_lines, assignment_line, head_line, parenthesized, index_text, link_text, subscript_text, reference_text, index_product_text, index_factor_text, product_text, factor_text, expr_text};
 
 use crate::declarations::{push_decl, push_field};
@@ -15,6 +18,9 @@ use std::alloc::Global;
 pub fn to_text(alloc: Global, p: &Program) -> Result<Bytes, Memory>
     requires regular { IsRegular p.now }
     ensures text { IfOk result (λ text. text ≡ canonical p.now) }
+
+    // So reading the text gives the same program, apart from places.
+    ensures spelled { IfOk result (λ text. (q : Program) × Spells q text × AreAlike q p.now) }
 {
     let mut text = Writer::new(alloc);
     push_field(&mut text, p.field)?;
