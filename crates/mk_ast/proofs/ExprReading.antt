@@ -12,7 +12,7 @@ use Rattle.mk_ast.specs.declared.tree.Index.{Index}
 use Rattle.mk_ast.specs.Tokens.{IsName, NothingGoesOn}
 use Rattle.mk_ast.specs.Phrases.{Phrase, nothing, after, until, optional}
 use Rattle.mk_ast.specs.Grammar.{bracketed, index_sum, reference, factor, product, sum_with, sum}
-use Rattle.mk_ast.specs.Canonical.{joined, parenthesized, wrapped, subscript_text, reference_text, is_sum, is_product, product_text, factor_text, expr_text}
+use Rattle.mk_ast.specs.Canonical.{joined, parenthesized, wrapped, subscript_text, reference_text, is_sum, is_product, summand_text, factor_text, expr_text}
 use Rattle.mk_ast.specs.Regular.{Within, Wrapped, IsRegularSubscript, IsRegularRef, IsRegularExprLayer, IsRegularExpr}
 use Rattle.mk_ast.specs.Places.{nowhere, placeless_index, placeless_ref, placeless_expr}
 use Rattle.mk_ast.proofs.Induction.{all_both, expr_induction}
@@ -96,7 +96,7 @@ enclosed_factor brackets e t reading =
     reads_second _ _ _ (reads_second _ _ _ (reads_second _ _ _ (reads_second _ _ _ (enclosed brackets e t reading))))
 
 -- an expression as a part of a sum
-sum_part : (e : Expr) (brackets : ℕ) → ExprReads e → Wrapped (is_sum e) (IsRegularExpr e) brackets → ReadsExpr (product_at brackets) e (product_text e (expr_text e))
+sum_part : (e : Expr) (brackets : ℕ) → ExprReads e → Wrapped (is_sum e) (IsRegularExpr e) brackets → ReadsExpr (product_at brackets) e (summand_text e (expr_text e))
 sum_part e brackets reads = by (is_sum e) refl brackets
   where
     by : (s : Bool) → is_sum e ≡ s → (b : ℕ) → Wrapped s (IsRegularExpr e) b → ReadsExpr (product_at b) e (wrapped s (expr_text e))
@@ -190,13 +190,13 @@ sum_reads parts all brackets h =
       as_factor = λ no_sum no_product. absurd (true≢false no_sum);
     }
   where
-    by : (xs : List Expr) → 2 ≤ length xs → AllByRecursion (λ e. ReadsExpr (product_at brackets) e (product_text e (expr_text e))) xs →
-        ReadsExpr (sum_with brackets (inner_expr brackets)) (expr.Sum xs) (joined (codes " + ") (map (λ e. product_text e (expr_text e)) xs))
+    by : (xs : List Expr) → 2 ≤ length xs → AllByRecursion (λ e. ReadsExpr (product_at brackets) e (summand_text e (expr_text e))) xs →
+        ReadsExpr (sum_with brackets (inner_expr brackets)) (expr.Sum xs) (joined (codes " + ") (map (λ e. summand_text e (expr_text e)) xs))
     by [] two p = absurd (omega arith)
     by (x ∷ []) two p = absurd (omega arith)
     by (x ∷ y ∷ zs) two p =
         reads_several (product_at brackets) placeless_expr (codes "+") expr.Sum expr.Sum placeless_expr-Sum x y zs _
-        (reads_separated (product_at brackets) placeless_expr (λ e. product_text e (expr_text e)) (codes " ") (codes "+") (codes " ")
+        (reads_separated (product_at brackets) placeless_expr (λ e. summand_text e (expr_text e)) (codes " ") (codes "+") (codes " ")
         space_gap space_gap is_plus (λ rest. refl) x (y ∷ zs) p)
 
 product_reads : (parts : List Expr) → AllByRecursion ExprReads parts → ExprReads (expr.Product parts)

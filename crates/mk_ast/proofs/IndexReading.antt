@@ -12,7 +12,7 @@ use Rattle.mk_ast.specs.declared.tree.Link.TheVariants as link
 use Rattle.mk_ast.specs.Tokens.{NothingGoesOn}
 use Rattle.mk_ast.specs.Phrases.{Phrase, nothing, after, until}
 use Rattle.mk_ast.specs.Grammar.{index_factor, index_link, chained, index_product, index_sum_with, index_sum}
-use Rattle.mk_ast.specs.Canonical.{joined, parenthesized, wrapped, is_index_sum, is_chain, index_product_text, index_factor_text, index_text, link_text}
+use Rattle.mk_ast.specs.Canonical.{joined, parenthesized, wrapped, is_index_sum, is_chain, index_summand_text, index_factor_text, index_text, link_text}
 use Rattle.mk_ast.specs.Regular.{Wrapped, IsRegularIndexLayer, IsRegularIndex}
 use Rattle.mk_ast.specs.Places.{nowhere, placeless_index}
 use Rattle.mk_ast.proofs.Induction.{all_both, index_induction}
@@ -73,7 +73,7 @@ in_parentheses brackets i t reading =
 
 -- an index as a part of a sum
 sum_part : (i : Index) (brackets : ℕ) → IndexReads i → Wrapped (is_index_sum i) (IsRegularIndex i) brackets →
-    ReadsIndex (index_product (inner_index brackets)) i (index_product_text i (index_text i))
+    ReadsIndex (index_product (inner_index brackets)) i (index_summand_text i (index_text i))
 sum_part i brackets reads = by (is_index_sum i) refl brackets
   where
     by : (s : Bool) → is_index_sum i ≡ s → (b : ℕ) → Wrapped s (IsRegularIndex i) b → ReadsIndex (index_product (inner_index b)) i (wrapped s (index_text i))
@@ -134,13 +134,13 @@ sum_reads parts all brackets h =
       factor = λ e e'. absurd (true≢false e);
     }
   where
-    by : (xs : List Index) → 2 ≤ length xs → AllByRecursion (λ i. ReadsIndex (index_product (inner_index brackets)) i (index_product_text i (index_text i))) xs →
-        ReadsIndex (index_sum_with (inner_index brackets)) (index.Sum xs) (joined (codes " + ") (map (λ i. index_product_text i (index_text i)) xs))
+    by : (xs : List Index) → 2 ≤ length xs → AllByRecursion (λ i. ReadsIndex (index_product (inner_index brackets)) i (index_summand_text i (index_text i))) xs →
+        ReadsIndex (index_sum_with (inner_index brackets)) (index.Sum xs) (joined (codes " + ") (map (λ i. index_summand_text i (index_text i)) xs))
     by [] two p = absurd (omega arith)
     by (x ∷ []) two p = absurd (omega arith)
     by (x ∷ y ∷ zs) two p =
         reads_several (index_product (inner_index brackets)) placeless_index (codes "+") index.Sum index.Sum placeless_index-Sum x y zs _
-        (reads_separated (index_product (inner_index brackets)) placeless_index (λ i. index_product_text i (index_text i)) (codes " ") (codes "+") (codes " ")
+        (reads_separated (index_product (inner_index brackets)) placeless_index (λ i. index_summand_text i (index_text i)) (codes " ") (codes "+") (codes " ")
         space_gap space_gap is_plus (λ rest. refl) x (y ∷ zs) p)
 
 -- a link begins with a space

@@ -19,7 +19,7 @@ use Rattle.mk_ast.specs.declared.tree.Index.TheFolds.{para-roll-Index, para-roll
 use Rattle.mk_ast.specs.declared.tree.Index.TheViews as index_views
 use Rattle.mk_ast.specs.declared.tree.Link.{Link}
 use Rattle.mk_ast.specs.declared.tree.Link.TheVariants as link
-use Rattle.mk_ast.specs.Canonical.{joined, index_layer_text, link_layer_text, index_text, link_text, index_product_text, index_factor_text, element_text, parenthesized, reference_text, expr_layer_text, expr_text, product_text, factor_text, ended, indent, laid, assignment_line, head_line, stmt_layer_lines, stmt_lines}
+use Rattle.mk_ast.specs.Canonical.{joined, index_layer_text, link_layer_text, index_text, link_text, index_summand_text, index_factor_text, element_text, parenthesized, reference_text, expr_layer_text, expr_text, summand_text, factor_text, ended, indent, laid, assignment_line, head_line, stmt_layer_lines, stmt_lines}
 use Rattle.std.proofs.lemmas.List.{append-nil}
 use Rattle.std.proofs.lemmas.List.Folds.{flat_map-map}
 use Rattle.mk_ast.specs.Places.{nowhere, placeless_index_layer, placeless_link_layer, placeless_index, placeless_ref, placeless_expr_layer, placeless_expr, placeless_stmt_layer, placeless_stmt}
@@ -32,7 +32,7 @@ index_text-Num n = ap index_text (sym (index_views.rolls-Num n)) ∙ para-roll-I
 pub index_text-Var : (name : List ℕ) (at : Place) → index_text (index.Var name at) ≡ name
 index_text-Var name at = ap index_text (sym (index_views.rolls-Var name at)) ∙ para-roll-Index (List ℕ) (List ℕ) index_layer_text link_layer_text (Index-F.Var name at)
 
-pub index_text-Sum : (parts : List Index) → index_text (index.Sum parts) ≡ joined (codes " + ") (map (λ i. index_product_text i (index_text i)) parts)
+pub index_text-Sum : (parts : List Index) → index_text (index.Sum parts) ≡ joined (codes " + ") (map (λ i. index_summand_text i (index_text i)) parts)
 index_text-Sum parts =
     ap index_text (sym (index_views.rolls-Sum parts)) ∙ para-roll-Index (List ℕ) (List ℕ) index_layer_text link_layer_text (Index-F.Sum parts)
     ∙ ap (joined (codes " + ")) (map_map _ _ parts)
@@ -73,7 +73,7 @@ pub expr_text-Apply : (name : List ℕ) (at : Place) (arg : Expr) → expr_text 
 expr_text-Apply name at arg =
     ap expr_text (sym (expr_views.rolls-Apply name at arg)) ∙ para-roll-Expr (List ℕ) expr_layer_text (Expr-F.Apply name at arg)
 
-pub expr_text-Sum : (parts : List Expr) → expr_text (expr.Sum parts) ≡ joined (codes " + ") (map (λ e. product_text e (expr_text e)) parts)
+pub expr_text-Sum : (parts : List Expr) → expr_text (expr.Sum parts) ≡ joined (codes " + ") (map (λ e. summand_text e (expr_text e)) parts)
 expr_text-Sum parts =
     ap expr_text (sym (expr_views.rolls-Sum parts)) ∙ para-roll-Expr (List ℕ) expr_layer_text (Expr-F.Sum parts)
     ∙ ap (joined (codes " + ")) (map_map _ _ parts)

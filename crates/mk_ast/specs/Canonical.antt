@@ -55,8 +55,8 @@ abbrev pub is_chain : Index → Bool
 is_chain (index.Chain' _ first _ links) = true
 is_chain _ = false
 
-abbrev pub index_product_text : Index → List ℕ → List ℕ
-index_product_text i text = wrapped (is_index_sum i) text
+abbrev pub index_summand_text : Index → List ℕ → List ℕ
+index_summand_text i text = wrapped (is_index_sum i) text
 
 abbrev pub index_factor_text : Index → List ℕ → List ℕ
 index_factor_text i text = wrapped (is_index_sum i || is_chain i) text
@@ -65,7 +65,7 @@ index_factor_text i text = wrapped (is_index_sum i || is_chain i) text
 abbrev pub index_layer_text : Index-F (Index × List ℕ) (Link × List ℕ) → List ℕ
 index_layer_text (Index-F.Num n) = decimal n
 index_layer_text (Index-F.Var name at) = name
-index_layer_text (Index-F.Sum parts) = joined (codes " + ") (map (λ part. index_product_text part.0 part.1) parts)
+index_layer_text (Index-F.Sum parts) = joined (codes " + ") (map (λ part. index_summand_text part.0 part.1) parts)
 index_layer_text (Index-F.Chain first links) = index_factor_text first.0 first.1 ++ flat_map (λ link. link.1) links
 
 abbrev pub link_layer_text : Link-F (Index × List ℕ) (Link × List ℕ) → List ℕ
@@ -95,8 +95,8 @@ abbrev pub is_product : Expr → Bool
 is_product (expr.Product' _ parts) = true
 is_product _ = false
 
-abbrev pub product_text : Expr → List ℕ → List ℕ
-product_text e text = wrapped (is_sum e) text
+abbrev pub summand_text : Expr → List ℕ → List ℕ
+summand_text e text = wrapped (is_sum e) text
 
 abbrev pub factor_text : Expr → List ℕ → List ℕ
 factor_text e text = wrapped (is_sum e || is_product e) text
@@ -106,7 +106,7 @@ expr_layer_text (Expr-F.Lit value at) = element_text value
 expr_layer_text (Expr-F.Read from) = reference_text from
 expr_layer_text (Expr-F.Sq arg) = codes "sq" ++ parenthesized arg.1
 expr_layer_text (Expr-F.Apply name at arg) = name ++ parenthesized arg.1
-expr_layer_text (Expr-F.Sum parts) = joined (codes " + ") (map (λ part. product_text part.0 part.1) parts)
+expr_layer_text (Expr-F.Sum parts) = joined (codes " + ") (map (λ part. summand_text part.0 part.1) parts)
 expr_layer_text (Expr-F.Product parts) = joined (codes " * ") (map (λ part. factor_text part.0 part.1) parts)
 
 abbrev pub expr_text : Expr → List ℕ

@@ -1,8 +1,7 @@
-ghost use Rattle.std.specs.Prelude.{◌≡◌, ◌++◌, OnOk, Some, map, codes};
+ghost use Rattle.std.specs.Prelude.{◌≡◌, ◌++◌, OnOk, map, codes};
 ghost use Rattle.mk_ast.specs.Canonical.{joined, ended, element_text, field_line, decl_line, what_line, class_text, size_text};
 ghost use Rattle.mk_ast.specs.declared.tree.What.TheVariants as what;
 
-use crate::text::separate;
 use crate::tree::{Class, Decl, What};
 use crate::writer::Writer;
 use mk_base::Memory;
@@ -46,7 +45,7 @@ fn push_images(text: &mut Writer, images: &[u8]) -> Result<(), Memory>
     ensures { OnOk result (text.new ≡ text.old ++ joined (codes ", ") (map element_text images.now)) }
 {
     for (number, image) in images.iter().enumerate() {
-        separate(text, ", ", number)?;
+        text.separate(", ", number)?;
         text.element(*image)?;
     }
     Ok(())

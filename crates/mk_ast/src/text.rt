@@ -1,11 +1,11 @@
-ghost use Rattle.std.specs.Prelude.{◌≡◌, ◌==◌, ◌≤◌, ◌-◌, [], ◌∷◌, ◌++◌, OnOk, IfOk, Some, map, flat_map, if◌then◌else◌, codes, decimal};
+ghost use Rattle.std.specs.Prelude.{◌≡◌, ◌≤◌, ◌-◌, [], ◌∷◌, ◌++◌, OnOk, IfOk, Some, map, flat_map, codes};
 ghost use Rattle.std.specs.List.{AllByRecursion};
 ghost use Rattle.mk_ast.specs.Grammar.{most_brackets};
 ghost use Rattle.mk_ast.specs.Regular.{IsRegularStmt, IsRegular};
 ghost use Rattle.mk_ast.specs.Spells.{Spells};
 ghost use Rattle.mk_ast.specs.Places.{AreAlike};
 ghost use Rattle.mk_ast.specs.declared.tree.Program.{Program};
-ghost use Rattle.mk_ast.specs.Canonical.{canonical, decl_line, joined, ended, laid, stmt_lines, assignment_line, head_line, parenthesized, index_text, link_text, subscript_text, reference_text, index_product_text, index_factor_text, product_text, factor_text, expr_text};
+ghost use Rattle.mk_ast.specs.Canonical.{canonical, decl_line, joined, ended, laid, stmt_lines, assignment_line, head_line, parenthesized, index_text, link_text, subscript_text, reference_text, index_summand_text, index_factor_text, summand_text, factor_text, expr_text};
 
 use crate::declarations::{push_decl, push_field};
 use crate::tree::{Decl, Expr, Index, Link, Program, Ref, Stmt};
@@ -39,16 +39,6 @@ fn push_decls(text: &mut Writer, decls: &[Decl]) -> Result<(), Memory>
     Ok(())
 }
 
-/// Appends what stands between the parts of a list, before part `number`, counted from 0.
-pub(crate) fn separate(text: &mut Writer, separator: &str, number: usize) -> Result<(), Memory>
-    ensures { OnOk result (text.new ≡ text.old ++ (if number == 0 then [] else separator.now)) }
-{
-    if number == 0 {
-        return Ok(());
-    }
-    text.words(separator)
-}
-
 /// Appends an index.
 #[cycle(index)]
 #[tactic(auto, using(crate::proofs::Layers::index_texts))]
@@ -70,19 +60,19 @@ fn push_index(text: &mut Writer, index: &Index) -> Result<(), Memory>
 #[cycle(index)]
 #[tactic(auto, using(crate::proofs::Joined::joined_more))]
 fn push_index_sum(text: &mut Writer, parts: &[Index]) -> Result<(), Memory>
-    ensures { OnOk result (text.new ≡ text.old ++ joined (codes " + ") (map (λ i. index_product_text i (index_text i)) parts.now)) }
+    ensures { OnOk result (text.new ≡ text.old ++ joined (codes " + ") (map (λ i. index_summand_text i (index_text i)) parts.now)) }
 {
     for (number, part) in parts.iter().enumerate() {
-        separate(text, " + ", number)?;
-        push_index_product(text, part)?;
+        text.separate(" + ", number)?;
+        push_index_summand(text, part)?;
     }
     Ok(())
 }
 
 /// Appends an index as a part of a sum.
 #[cycle(index)]
-fn push_index_product(text: &mut Writer, index: &Index) -> Result<(), Memory>
-    ensures { OnOk result (text.new ≡ text.old ++ index_product_text index.now (index_text index.now)) }
+fn push_index_summand(text: &mut Writer, index: &Index) -> Result<(), Memory>
+    ensures { OnOk result (text.new ≡ text.old ++ index_summand_text index.now (index_text index.now)) }
 {
     match index {
         Index::Sum { .. } => push_index_in_parentheses(text, index),
@@ -178,7 +168,7 @@ fn push_expr(text: &mut Writer, expr: &Expr) -> Result<(), Memory>
             push_in_parentheses(text, arg.get())
         }
         Expr::Sum { parts } => push_sum(text, parts.as_slice()),
-        Expr::Product { parts } => push_products(text, parts.as_slice()),
+        Expr::Product { parts } => push_product(text, parts.as_slice()),
     }
 }
 
@@ -186,11 +176,11 @@ fn push_expr(text: &mut Writer, expr: &Expr) -> Result<(), Memory>
 #[cycle(expr)]
 #[tactic(auto, using(crate::proofs::Joined::joined_more))]
 fn push_sum(text: &mut Writer, parts: &[Expr]) -> Result<(), Memory>
-    ensures { OnOk result (text.new ≡ text.old ++ joined (codes " + ") (map (λ e. product_text e (expr_text e)) parts.now)) }
+    ensures { OnOk result (text.new ≡ text.old ++ joined (codes " + ") (map (λ e. summand_text e (expr_text e)) parts.now)) }
 {
     for (number, part) in parts.iter().enumerate() {
-        separate(text, " + ", number)?;
-        push_product(text, part)?;
+        text.separate(" + ", number)?;
+        push_summand(text, part)?;
     }
     Ok(())
 }
@@ -198,11 +188,11 @@ fn push_sum(text: &mut Writer, parts: &[Expr]) -> Result<(), Memory>
 /// Appends the product of these expressions.
 #[cycle(expr)]
 #[tactic(auto, using(crate::proofs::Joined::joined_more))]
-fn push_products(text: &mut Writer, parts: &[Expr]) -> Result<(), Memory>
+fn push_product(text: &mut Writer, parts: &[Expr]) -> Result<(), Memory>
     ensures { OnOk result (text.new ≡ text.old ++ joined (codes " * ") (map (λ e. factor_text e (expr_text e)) parts.now)) }
 {
     for (number, part) in parts.iter().enumerate() {
-        separate(text, " * ", number)?;
+        text.separate(" * ", number)?;
         push_factor(text, part)?;
     }
     Ok(())
@@ -210,8 +200,8 @@ fn push_products(text: &mut Writer, parts: &[Expr]) -> Result<(), Memory>
 
 /// Appends an expression as a part of a sum.
 #[cycle(expr)]
-fn push_product(text: &mut Writer, expr: &Expr) -> Result<(), Memory>
-    ensures { OnOk result (text.new ≡ text.old ++ product_text expr.now (expr_text expr.now)) }
+fn push_summand(text: &mut Writer, expr: &Expr) -> Result<(), Memory>
+    ensures { OnOk result (text.new ≡ text.old ++ summand_text expr.now (expr_text expr.now)) }
 {
     match expr {
         Expr::Sum { .. } => push_in_parentheses(text, expr),

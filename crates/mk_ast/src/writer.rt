@@ -1,4 +1,4 @@
-ghost use Rattle.std.specs.Prelude.{◌≡◌, [], ◌++◌, OnOk, IfOk, decimal, string_bytes};
+ghost use Rattle.std.specs.Prelude.{◌≡◌, ◌==◌, [], ◌++◌, OnOk, IfOk, if◌then◌else◌, decimal, string_bytes};
 ghost use Rattle.mk_ast.specs.Canonical.{element_text, indent};
 
 use mk_base::{Bytes, Items, Memory};
@@ -60,6 +60,16 @@ impl Writer {
     {
         let word = element_word(self.alloc, value)?;
         self.words(&word)
+    }
+
+    /// Appends what stands between the parts of a list, before part `number`, counted from 0.
+    pub(crate) fn separate(&mut self, separator: &str, number: usize) -> Result<(), Memory>
+        ensures { OnOk result (self.new ≡ self.old ++ (if number == 0 then [] else separator.now)) }
+    {
+        if number == 0 {
+            return Ok(());
+        }
+        self.words(separator)
     }
 
     /// Appends the spaces in front of a line within so many loops.
