@@ -24,6 +24,7 @@ use Rattle.mk_ast.proofs.TokenTexts.{is_plus, is_times, is_opening, is_closing, 
 
 -- ---- references
 
+-- the brackets behind the name of an array, if there are any
 subscript_reads : (o : Option Index) (brackets : ℕ) → IsRegularSubscript o brackets →
     Reading NothingGoesOn (optional (bracketed (codes "[") (codes "]") index_sum brackets)) (λ a. option_map placeless_index a ≡ option_map placeless_index o) (subscript_text o)
 subscript_reads None brackets h = reads_nothing NothingGoesOn _ _ None refl refl
@@ -50,10 +51,11 @@ reference_reads r brackets h =
 -- ---- expressions
 
 -- what may stand within parentheses
-abbrev inner_expr : ℕ → Phrase Expr
+abbrev pub inner_expr : ℕ → Phrase Expr
 inner_expr zero = nothing
 inner_expr (suc brackets) = after (codes "(") (until (codes ")") (sum brackets))
 
+-- factors and products, by the brackets that are left
 abbrev factor_at : ℕ → Phrase Expr
 factor_at brackets = factor brackets (inner_expr brackets)
 
@@ -70,9 +72,11 @@ record ExprReading (e : Expr) (brackets : ℕ) : Type 0 where
   as_product : is_sum e ≡ false → ReadsExpr (product_at brackets) e (expr_text e)
   as_factor : is_sum e ≡ false → is_product e ≡ false → ReadsExpr (factor_at brackets) e (expr_text e)
 
+-- the text of the expression is read, where it is regular
 abbrev ExprReads : Expr → Type 0
 ExprReads e = (brackets : ℕ) → IsRegularExpr e brackets → ExprReading e brackets
 
+-- a sum, by the brackets that are left
 by_sum : (brackets : ℕ) (e : Expr) (t : List ℕ) → ReadsExpr (sum_with brackets (inner_expr brackets)) e t → ReadsExpr (sum brackets) e t
 unfolding sum
 by_sum zero e t reading = reading
@@ -91,6 +95,7 @@ enclosed brackets e t reading =
     reads_before NothingGoesOn (parenthesized t) (λ rest r. tt)
     (reads_after (codes "(") (t ++ codes ")") (λ rest r. inl is_opening) (reads_until (codes ")") t is_closing (λ rest. refl) reading))
 
+-- and so a factor
 enclosed_factor : (brackets : ℕ) (e : Expr) (t : List ℕ) → ReadsExpr (sum brackets) e t → ReadsExpr (factor_at (suc brackets)) e (parenthesized t)
 enclosed_factor brackets e t reading =
     reads_second _ _ _ (reads_second _ _ _ (reads_second _ _ _ (reads_second _ _ _ (enclosed brackets e t reading))))
@@ -117,6 +122,7 @@ factor_part e brackets reads = by (is_sum e) (is_product e) refl refl brackets
     by false true is is' (suc b) h = enclosed_factor b e (expr_text e) (reads b h).as_sum
     by false false is is' b h = (reads b h).as_factor is is'
 
+-- what is read as a product is read wherever an expression stands
 of_product : (e : Expr) (brackets : ℕ) → is_product e ≡ true → ReadsExpr (product_at brackets) e (expr_text e) → ExprReading e brackets
 of_product e brackets is reading = record {
   as_sum = sum_alone brackets e _ reading;
@@ -124,6 +130,7 @@ of_product e brackets is reading = record {
   as_factor = λ no_sum no_product. absurd (true≢false (sym is ∙ no_product));
 }
 
+-- what is read as a factor is read wherever an expression stands
 of_factor : (e : Expr) (brackets : ℕ) (t : List ℕ) → expr_text e ≡ t → ReadsExpr (factor_at brackets) e t → ExprReading e brackets
 of_factor e brackets t is reading =
     let reading' = subst (ReadsExpr (factor_at brackets) e) (sym is) reading in
@@ -133,10 +140,12 @@ of_factor e brackets t is reading =
       as_factor = λ no_sum no_product. reading';
     }
 
+-- what a regular expression has, by its layer
 regular : (e : Expr) (d : Expr-F Expr) (brackets : ℕ) → expr_views.roll-Expr d ≡ e → IsRegularExpr e brackets →
     IsRegularExprLayer Expr (λ y. y) IsRegularExpr d brackets
 regular e d brackets is h = regular_expr d brackets (subst (λ x. IsRegularExpr x brackets) (sym is) h)
 
+-- an element
 lit_reads : (value : ℕ) (at : Place) → ExprReads (expr.Lit value at)
 lit_reads value at brackets h =
     of_factor (expr.Lit value at) brackets _ (expr_text-Lit value at)
@@ -145,6 +154,7 @@ lit_reads value at brackets h =
     (λ x is. placeless_expr-Lit x.0 x.1 ∙ ap (λ v. expr.Lit v nowhere) is ∙ sym (placeless_expr-Lit value at))
     (reads_element value (regular (expr.Lit value at) (Expr-F.Lit value at) brackets (expr_views.rolls-Lit value at) h))))
 
+-- a reference
 read_reads : (from : Ref) → ExprReads (expr.Read from)
 read_reads from brackets h =
     of_factor (expr.Read from) brackets _ (expr_text-Read from)
@@ -153,6 +163,7 @@ read_reads from brackets h =
     (λ r is. placeless_expr-Read r ∙ ap expr.Read is ∙ sym (placeless_expr-Read from))
     (reference_reads from brackets (regular (expr.Read from) (Expr-F.Read from) brackets (expr_views.rolls-Read from) h)))))))
 
+-- a square
 sq_reads : (arg : Expr) → ExprReads arg → ExprReads (expr.Sq arg)
 sq_reads arg reads brackets h =
     of_factor (expr.Sq arg) brackets _ (expr_text-Sq arg)
@@ -166,6 +177,7 @@ sq_reads arg reads brackets h =
         (λ a is. placeless_expr-Sq a ∙ ap expr.Sq is ∙ sym (placeless_expr-Sq arg))
         (reads_after (codes "sq") _ (λ rest r. word_token (codes "sq") (parenthesized (expr_text arg) ++ rest) is_sq refl) (enclosed b arg (expr_text arg) (reads b inside).as_sum))))
 
+-- a map and its argument
 apply_reads : (n : List ℕ) (at : Place) (arg : Expr) → ExprReads arg → ExprReads (expr.Apply n at arg)
 apply_reads n at arg reads brackets h =
     let layer = regular (expr.Apply n at arg) (Expr-F.Apply n at arg) brackets (expr_views.rolls-Apply n at arg) h in
@@ -179,6 +191,7 @@ apply_reads n at arg reads brackets h =
         (λ x like. placeless_expr-Apply x.0.0 x.0.1 x.1 ∙ (λ i. expr.Apply (like.0 i) nowhere (like.1 i)) ∙ sym (placeless_expr-Apply n at arg))
         (reads_and n _ (λ rest r. refl) (reads_name n is) (enclosed b arg (expr_text arg) (reads b inside).as_sum)))))
 
+-- a sum of several parts
 sum_reads : (parts : List Expr) → AllByRecursion ExprReads parts → ExprReads (expr.Sum parts)
 sum_reads parts all brackets h =
     let layer = regular (expr.Sum parts) (Expr-F.Sum parts) brackets (expr_views.rolls-Sum parts) h in
@@ -199,6 +212,7 @@ sum_reads parts all brackets h =
         (reads_separated (product_at brackets) placeless_expr (λ e. summand_text e (expr_text e)) (codes " ") (codes "+") (codes " ")
         space_gap space_gap is_plus (λ rest. refl) x (y ∷ zs) p)
 
+-- a product of several parts
 product_reads : (parts : List Expr) → AllByRecursion ExprReads parts → ExprReads (expr.Product parts)
 product_reads parts all brackets h =
     let layer = regular (expr.Product parts) (Expr-F.Product parts) brackets (expr_views.rolls-Product parts) h in

@@ -30,6 +30,7 @@ inner_index (suc brackets) = after (codes "(") (until (codes ")") (index_sum bra
 abbrev pub ReadsIndex : Phrase Index → Index → List ℕ → Type 0
 ReadsIndex phrase i t = Reading NothingGoesOn phrase (λ a. placeless_index a ≡ placeless_index i) t
 
+-- the text is read as a link like this one
 abbrev pub ReadsLink : Phrase Link → Link → List ℕ → Type 0
 ReadsLink phrase l t = Reading NothingGoesOn phrase (λ a. placeless_link a ≡ placeless_link l) t
 
@@ -39,12 +40,15 @@ pub record IndexReading (i : Index) (brackets : ℕ) : Type 0 where
   pub product : is_index_sum i ≡ false → ReadsIndex (index_product (inner_index brackets)) i (index_text i)
   pub factor : is_index_sum i ≡ false → is_chain i ≡ false → ReadsIndex (index_factor (inner_index brackets)) i (index_text i)
 
+-- the text of the index is read, where it is regular
 abbrev IndexReads : Index → Type 0
 IndexReads i = (brackets : ℕ) → IsRegularIndex i brackets → IndexReading i brackets
 
+-- the text of the link is read, where it is regular
 abbrev LinkReads : Link → Type 0
 LinkReads l = (brackets : ℕ) → IsRegularLink l brackets → ReadsLink (index_link (inner_index brackets)) l (link_text l)
 
+-- a sum, by the brackets that are left
 as_sum : (brackets : ℕ) (i : Index) (t : List ℕ) → ReadsIndex (index_sum_with (inner_index brackets)) i t → ReadsIndex (index_sum brackets) i t
 unfolding index_sum
 as_sum zero i t reading = reading
@@ -102,10 +106,12 @@ of_factor i brackets reading = record {
   factor = λ e e'. reading;
 }
 
+-- what a regular index has, by its layer
 regular : (i : Index) (d : Index-F Index Link) (brackets : ℕ) → index_views.roll-Index d ≡ i → IsRegularIndex i brackets →
     IsRegularIndexLayer Index Link (λ y. y) IsRegularIndex IsRegularLink d brackets
 regular i d brackets e h = regular_index d brackets (subst (λ x. IsRegularIndex x brackets) (sym e) h)
 
+-- a number
 num_reads : (n : ℕ) → IndexReads (index.Num n)
 num_reads n brackets h =
     of_factor (index.Num n) brackets
@@ -114,6 +120,7 @@ num_reads n brackets h =
     (reads_made (λ a. placeless_index a ≡ placeless_index (index.Num n)) index.Num (decimal n) (λ m e. ap (λ k. placeless_index (index.Num k)) e)
     (reads_number n (regular (index.Num n) (Index-F.Num n) brackets (index_views.rolls-Num n) h)))))
 
+-- the name of a loop
 var_reads : (n : List ℕ) (at : Place) → IndexReads (index.Var n at)
 var_reads n at brackets h =
     of_factor (index.Var n at) brackets
@@ -123,6 +130,7 @@ var_reads n at brackets h =
     (λ x e. placeless_index-Var x.0 x.1 ∙ ap (λ k. index.Var k nowhere) e ∙ sym (placeless_index-Var n at))
     (reads_name n (regular (index.Var n at) (Index-F.Var n at) brackets (index_views.rolls-Var n at) h))))))
 
+-- a sum of several parts
 sum_reads : (parts : List Index) → AllByRecursion IndexReads parts → IndexReads (index.Sum parts)
 sum_reads parts all brackets h =
     let layer = regular (index.Sum parts) (Index-F.Sum parts) brackets (index_views.rolls-Sum parts) h in
@@ -148,6 +156,7 @@ link_stops : (l : Link) (rest : List ℕ) → NothingGoesOn (link_text l ++ rest
 link_stops (link.Times by) rest = subst (λ t. NothingGoesOn (t ++ rest)) (sym (link_text-Times by)) refl
 link_stops (link.Mod n) rest = subst (λ t. NothingGoesOn (t ++ rest)) (sym (link_text-Mod n)) refl
 
+-- an index with its links
 chain_reads : (first : Index) (links : List Link) → IndexReads first → AllByRecursion LinkReads links → IndexReads (index.Chain first links)
 chain_reads first links first_reads all brackets h =
     let layer = regular (index.Chain first links) (Index-F.Chain first links) brackets (index_views.rolls-Chain first links) h in
@@ -174,6 +183,7 @@ chain_reads first links first_reads all brackets h =
     likes (l ∷ ls) one a (m ∷ ms) e e' =
         placeless_index-Chain a (m ∷ ms) ∙ (λ i. index.Chain (e i) (e' i)) ∙ sym (placeless_index-Chain first (l ∷ ls))
 
+-- a link with a factor
 times_reads : (by : Index) → IndexReads by → LinkReads (link.Times by)
 times_reads by reads brackets h =
     let layer = regular_link (Link-F.Times by) brackets (subst (λ x. IsRegularLink x brackets) (sym (index_views.rolls-Times by)) h) in
@@ -184,6 +194,7 @@ times_reads by reads brackets h =
     (reads_gap (codes " ") _ space_gap (reads_after (codes "*") _ (λ rest r. inl is_times)
     (reads_gap (codes " ") _ space_gap (factor_part by brackets reads layer))))))
 
+-- a link with a remainder
 rest_reads : (n : ℕ) → LinkReads (link.Mod n)
 rest_reads n brackets h =
     let layer = regular_link (Link-F.Mod n) brackets (subst (λ x. IsRegularLink x brackets) (sym (index_views.rolls-Mod n)) h) in

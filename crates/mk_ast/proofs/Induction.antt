@@ -31,6 +31,7 @@ pub all_both : {A : Type 0} (P Q R : A → Type 0) (xs : List A) → ((x : A) �
 all_both P Q R [] f p q = tt
 all_both P Q R (x ∷ xs) f p q = (f x p.0 q.0, all_both P Q R xs f p.1 q.1)
 
+-- indexes and links
 module _ (P : Index → Type 0) (Q : Link → Type 0)
     (num : (n : ℕ) → P (index.Num n)) (var : (name : List ℕ) (at : Place) → P (index.Var name at))
     (sum : (parts : List Index) → AllByRecursion P parts → P (index.Sum parts))
@@ -52,6 +53,7 @@ module _ (P : Index → Type 0) (Q : Link → Type 0)
   index_induction =
       ind-Index P Q (λ x y is. subst (λ d. P (index_views.roll-Index d)) is (index_case y)) (λ x y is. subst (λ d. Q (index_views.roll-Link d)) is (link_case y))
 
+-- expressions
 module _ (P : Expr → Type 0)
     (lit : (value : ℕ) (at : Place) → P (expr.Lit value at)) (read : (from : Ref) → P (expr.Read from))
     (sq : (arg : Expr) → P arg → P (expr.Sq arg)) (apply : (name : List ℕ) (at : Place) (arg : Expr) → P arg → P (expr.Apply name at arg))
@@ -68,6 +70,7 @@ module _ (P : Expr → Type 0)
   pub expr_induction : (e : Expr) → P e
   expr_induction = ind-Expr P (λ x y is. subst (λ d. P (expr_views.roll-Expr d)) is (expr_case y))
 
+-- statements
 module _ (P : Stmt → Type 0)
     (set : (target : Ref) (value : Expr) → P (stmt.Set target value))
     (repeated : (name : List ℕ) (at : Place) (from to : ℕ) (body : List Stmt) → AllByRecursion P body → P (stmt.Loop name at from to body)) where

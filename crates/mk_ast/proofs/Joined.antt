@@ -61,6 +61,7 @@ laid_in loops (line ∷ lines) = λ i. first i ++ laid_in loops lines i
     first : indent loops ++ ended (codes "  " ++ line) ≡ indent (loops + 1) ++ ended line
     first = sym (append_assoc (indent loops) (codes "  ") (ended line)) ∙ ap (λ t. t ++ ended line) (sym (indent_end loops) ∙ ap indent (sym (add-one loops)))
 
+-- lines, and then lines
 pub laid-append : (loops : ℕ) (front back : List (List ℕ)) → laid loops (front ++ back) ≡ laid loops front ++ laid loops back
 laid-append loops front back = flat_map-append (λ line. indent loops ++ ended line) front back
 

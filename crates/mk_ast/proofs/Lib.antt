@@ -6,5 +6,7 @@ pub mod Layers
 pub mod ProgramReading
 pub mod Reading
 pub mod RegularLayers
+pub mod SpelledIndex
+pub mod SpelledProgram
 pub mod StmtReading
 pub mod TokenTexts

@@ -29,6 +29,7 @@ use Rattle.mk_ast.proofs.TokenTexts.{is_semicolon, is_equals, is_comma, is_squar
 abbrev ReadsDecl : Phrase Decl → Decl → List ℕ → Type 0
 ReadsDecl phrase d t = Reading Any phrase (λ a. placeless_decl a ≡ placeless_decl d) t
 
+-- the words of a class
 class_reads : (c : Class) → Reading NothingGoesOn class (λ a. a ≡ c) (class_text c)
 class_reads class_.Secret = reads_first _ _ _ (reads_meaning (codes "secret") class_.Secret is_secret)
 class_reads class_.Public = reads_second _ _ _ (reads_first _ _ _ (reads_meaning (codes "public") class_.Public is_public))
@@ -40,6 +41,7 @@ class_reads class_.LocalPublic =
     reads_second _ _ _ (reads_second _ _ _ (reads_second _ _ _
     (reads_word (codes "local") (codes "public") is_local (reads_second _ _ _ (reads_meaning (codes "public") class_.LocalPublic is_public)))))
 
+-- the brackets with a size, if there are any
 size_reads : (c : Class) (s : Option ℕ) → IsRegularWhat (what.Var c s) →
     Reading NothingGoesOn (optional (after (codes "[") (until (codes "]") size))) (λ a. a ≡ s) (size_text s)
 size_reads c None h = reads_nothing NothingGoesOn _ _ None refl refl
@@ -50,6 +52,7 @@ size_reads c (Some n) h =
     (reads_after (codes "[") _ (λ rest r. inl is_square_opening)
     (reads_until (codes "]") _ is_square_closing (λ rest. refl) (reads_size n h.0 h.1)))))
 
+-- the images of a map
 images_read : (images : List ℕ) → 1 ≤ length images → AllByRecursion (λ image. image < 256) images →
     Reading NothingGoesOn (separated (codes ",") (made (λ (x : ℕ × Place). x.0) element)) (AreLike (λ image. image) images) (joined (codes ", ") (map element_text images))
 images_read [] one all = absurd (omega arith)
@@ -61,10 +64,12 @@ images_read (image ∷ images) one all =
     each [] p = tt
     each (x ∷ xs) p = (reads_made (λ a. a ≡ x) (λ y. y.0) _ (λ y like. like) (reads_element x p.0), each xs p.1)
 
+-- a list through nothing
 map_id : (xs : List ℕ) → map (λ x. x) xs ≡ xs
 map_id [] = refl
 map_id (x ∷ xs) = ap (λ ys. x ∷ ys) (map_id xs)
 
+-- a declaration and its line feed
 declaration_reads : (n : List ℕ) (at : Place) (w : What) → IsName n → IsRegularWhat w →
     ReadsDecl declaration (record { name = n; at = at; what = w }) (ended (what_line n w))
 declaration_reads n at (what.Map images) is h =
@@ -99,6 +104,7 @@ declaration_reads n at (what.Var c s) is h =
     goes None rest r = r
     goes (Some m) rest r = refl
 
+-- the line of the field
 field_reads : (f : FieldId) →
     Reading Any (after (codes "field") (until (codes ";") (meaning (codes "gf2") Gf2 or meaning (codes "gf256") Gf256))) (λ a. a ≡ f) (field_line f)
 field_reads Gf2 =
@@ -108,6 +114,7 @@ field_reads Gf256 =
     reads_word (codes "field") (codes "gf256" ++ codes ";") is_field
     (reads_until (codes ";") (codes "gf256") is_semicolon (λ rest. refl) (reads_second _ _ _ (reads_meaning (codes "gf256") Gf256 is_gf256)))
 
+-- the declarations, one behind the other
 decls_read : (decls : List Decl) → AllByRecursion IsRegularDecl decls → Reading Any (many declaration) (AreLike placeless_decl decls) (flat_map (λ d. ended (decl_line d)) decls)
 decls_read decls all = reads_many declaration placeless_decl (λ d. ended (decl_line d)) decls (λ d rest a. tt) (each decls all)
   where
@@ -122,6 +129,7 @@ canonical_parts p =
     (ap (λ t. t ++ laid 0 (flat_map stmt_lines p.body)) (sym (flat_map-map ended decl_line p.decls))
     ∙ sym (flat_map-append ended (map decl_line p.decls) (flat_map stmt_lines p.body)))
 
+-- the canonical text of a regular program is read as the program
 program_reads : (p : Program) → IsRegular p → Reading Any program (λ a. AreAlike a p) (canonical p)
 program_reads p h =
     subst (Reading Any program (λ a. AreAlike a p)) (canonical_parts p)

@@ -26,9 +26,11 @@ use Rattle.mk_ast.proofs.TokenTexts.{is_semicolon, is_equals, is_dots, is_curly_
 abbrev pub ReadsStmt : Phrase Stmt → Stmt → List ℕ → Type 0
 ReadsStmt phrase s t = Reading Any phrase (λ a. placeless_stmt a ≡ placeless_stmt s) t
 
+-- the text of the statement is read within any loops, where it is regular
 abbrev StmtReads : Stmt → Type 0
 StmtReads s = (brackets loops : ℕ) → IsRegularStmt s brackets → ReadsStmt (statement brackets) s (laid loops (stmt_lines s))
 
+-- a line feed
 abbrev feed : List ℕ
 feed = 10 ∷ []
 
@@ -64,6 +66,7 @@ heading_reads n from to is f t =
     (reads_and (decimal from) _ (λ rest r. refl) (reads_number from f)
     (reads_after (codes "..") _ (λ rest r. inl is_dots) (reads_number to t))))))
 
+-- an assignment within loops
 set_reads : (target : Ref) (value : Expr) → StmtReads (stmt.Set target value)
 unfolding statement
 set_reads target value brackets loops h =
@@ -95,6 +98,7 @@ loop_text : (n : List ℕ) (from to : ℕ) (inside front : List ℕ) →
     ≡ ended (head_line n from to) ++ (inside ++ (front ++ ended (codes "}")))
 loop_text n from to inside front = simp append_assoc
 
+-- a loop
 loop_reads : (n : List ℕ) (at : Place) (from to : ℕ) (body : List Stmt) → AllByRecursion StmtReads body → StmtReads (stmt.Loop n at from to body)
 unfolding statement
 loop_reads n at from to body all brackets loops h =

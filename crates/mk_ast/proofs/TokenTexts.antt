@@ -6,6 +6,7 @@ use Rattle.mk_ast.specs.Grammar.{name, number, size, element, meaning}
 use Rattle.mk_ast.specs.Canonical.{hex_digit, element_text}
 use Rattle.mk_ast.proofs.Reading.{Reading, reads_one, reads_gap, reads_after}
 
+-- the symbols
 pub is_semicolon : Contains symbols (codes ";")
 is_semicolon = (0, lit< tt, refl)
 
@@ -49,6 +50,7 @@ is_dots = (12, lit< tt, refl)
 pub word_token : (w rest : List ℕ) → IsWord w → NothingGoesOn rest → IsToken w rest
 word_token w rest is r = inr (inl is, r)
 
+-- the reserved words
 pub is_field : IsWord (codes "field")
 is_field = (refl, (refl, (refl, (refl, (refl, tt)))), lit< tt)
 
@@ -132,6 +134,7 @@ element_is value lt =
     let whole : value ≡ 16 * (value / 16) + value % 16 = omega arith in
     (_, _, _, _, refl, hex_value-digit (value / 16) high, hex_value-digit (value % 16) low, whole)
 
+-- an element, as a token
 pub reads_element : (value : ℕ) → value < 256 → Reading NothingGoesOn element (λ x. x.0 ≡ value) (element_text value)
 reads_element value lt =
     let is = element_is value lt in

@@ -13,8 +13,10 @@ use crate::writer::Writer;
 use mk_base::{Bytes, Memory};
 use std::alloc::Global;
 
-/// The canonical text of a program: each declaration and statement on a line of its own, and parentheses
-/// only where the grammar wants them. `Memory` comes where memory is wanted and not found.
+/// The canonical text of a program: each declaration and statement on a line of its own, the body of a
+/// loop two spaces further in, one space on each side of `=`, `+`, `*` and `%` and behind `,`, elements in
+/// lower-case digits, and parentheses only where the grammar wants them. The program is regular, as those
+/// that texts spell are. `Memory` comes where memory is wanted and not found.
 pub fn to_text(alloc: Global, p: &Program) -> Result<Bytes, Memory>
     requires regular { IsRegular p.now }
     ensures text { IfOk result (λ text. text ≡ canonical p.now) }
