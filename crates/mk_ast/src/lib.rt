@@ -2,10 +2,14 @@
 //! canonical text of a tree. The trees keep the places of their names and elements.
 #![tactic(auto)]
 
+mod declarations;
 mod refusal;
+mod text;
 mod tree;
+mod writer;
 
 pub use refusal::{Limit, SourceRefusal};
+pub use text::to_text;
 pub use tree::{
     Class, Decl, DeclList, ElementList, Expr, ExprList, Index, IndexList, Link, LinkList, Name,
     Program, Ref, Stmt, StmtList, What,
