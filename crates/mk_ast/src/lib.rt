@@ -3,11 +3,13 @@
 #![tactic(auto)]
 
 mod declarations;
+mod laws;
 mod refusal;
 mod text;
 mod tree;
 mod writer;
 
+pub use laws::spelled_law;
 pub use refusal::{Limit, SourceRefusal};
 pub use text::to_text;
 pub use tree::{

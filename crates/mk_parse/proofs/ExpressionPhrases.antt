@@ -12,7 +12,7 @@ use Rattle.mk_ast.specs.Phrases.{Phrase, nothing, one, made, ◌or◌, ◌and◌
 use Rattle.mk_ast.specs.Grammar.{name, element, bracketed, index_sum, reference, factor, product, sum_with, sum}
 use Rattle.mk_parse.specs.Readers.{Reader, starts, says, never, fails, skips, takes, makes, ◌next◌, past, ended, chosen, perhaps, every, parted}
 use Rattle.mk_parse.specs.Reading.{is_word, is_among, all_go_on, is_name, name_of, element_of, element_text, gives, guarded, index_sum_at, index_brackets, index_part, reference_of, reference_at, after_name, named, factor_by, product_by, sum_by, sum_at, sum_inner}
-use Rattle.mk_parse.proofs.Laws.{Stops, Reads, BeginsBy, reads_token, reads_made, says_is, is_says}
+use Rattle.mk_parse.proofs.ReaderLaws.{Stops, Reads, BeginsBy, reads_token, reads_made, says_is, is_says}
 use Rattle.mk_parse.proofs.Joined.{token_of, reads_after, after_begins, reads_and}
 use Rattle.mk_parse.proofs.Choices.{empty, reads_empty, reads_same, reads_by, reads_before, reads_until, reads_or, reads_alone, reads_closed, stops_never, made_begins, and_begins, one_begins, apart_by}
 use Rattle.mk_parse.proofs.Loops.{shorter}

@@ -15,7 +15,7 @@ use Rattle.mk_ast.specs.Phrases.{Phrase, nothing, one, made, ◌or◌, ◌and◌
 use Rattle.mk_ast.specs.Grammar.{name, number, size, index_factor, index_link, chained, index_product, index_sum_with, index_sum}
 use Rattle.mk_parse.specs.Readers.{Reader, starts, says, never, fails, takes, makes, ◌next◌, past, ended, chosen, every, parted}
 use Rattle.mk_parse.specs.Reading.{is_word, is_among, all_go_on, is_name, name_of, number_of, size_of, gives, index_factor_by, index_link_by, begins_link, index_product_by, index_sum_by, index_sum_at, index_inner}
-use Rattle.mk_parse.proofs.Laws.{Stops, Reads, BeginsBy, reads_token, reads_made, says_is, is_says}
+use Rattle.mk_parse.proofs.ReaderLaws.{Stops, Reads, BeginsBy, reads_token, reads_made, says_is, is_says}
 use Rattle.mk_parse.proofs.Joined.{token_of, reads_after, after_begins, reads_and}
 use Rattle.mk_parse.proofs.Choices.{reads_same, reads_until, reads_or, reads_alone, stops_never, made_begins, one_begins, apart_by}
 use Rattle.mk_parse.proofs.Many.{reads_many, reads_separated}

@@ -5,7 +5,7 @@ use Rattle.mk_base.specs.declared.Place.{Place}
 use Rattle.mk_ast.specs.Tokens.{Token}
 use Rattle.mk_ast.specs.Phrases.{Phrase, nothing, one, made, ◌or◌, ◌and◌, after, until, optional, many, separated}
 use Rattle.mk_parse.specs.Readers.{Reading, Reader, ◌>>=◌, starts, says, never, fails, takes, makes, ◌next◌, past, ended, chosen, perhaps, repeats, every, parted}
-use Rattle.mk_parse.proofs.Laws.{Stops, SameHead, Found, Stuck, Reads, BeginsBy, bind_ok, bind_err, read, refused, ok_same, err_same, cond_ok, cond_err, cond_is, says_is, is_says, same_head, same_head_nil, stops_same, starts_same, stuck_here, reads_made}
+use Rattle.mk_parse.proofs.ReaderLaws.{Stops, SameHead, Found, Stuck, Reads, BeginsBy, bind_ok, bind_err, read, refused, ok_same, err_same, cond_ok, cond_err, cond_is, says_is, is_says, same_head, same_head_nil, stops_same, starts_same, stuck_here, reads_made}
 
 -- a token that is this word
 abbrev pub token_of : List ℕ → Token

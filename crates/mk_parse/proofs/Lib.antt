@@ -1,4 +1,4 @@
-mod Laws
+mod ReaderLaws
 mod Joined
 mod Choices
 mod Many
@@ -13,3 +13,4 @@ pub mod Munching
 pub mod Placing
 pub mod Lexed
 mod Refusals
+mod Few

@@ -8,7 +8,7 @@ use Rattle.mk_parse.specs.Readers.{Reading, Reader, ◌>>=◌, starts, says, tak
 use Rattle.mk_parse.specs.declared.cursor.Stop.{Stop}
 use Rattle.mk_parse.specs.declared.cursor.Stop.TheVariants.{Here, Memory}
 use Rattle.mk_parse.specs.Answers.{Answers}
-use Rattle.mk_parse.proofs.Laws.{Reads, BeginsBy, read, refused, bind_ok, ok_same}
+use Rattle.mk_parse.proofs.ReaderLaws.{Reads, BeginsBy, read, refused, bind_ok, ok_same}
 
 -- what a reader leaves is no longer than what it had
 pub no_longer : {A : Type 0} {reader : Reader A} {phrase : Phrase A} {goes_on : Token → Bool} → Reads reader phrase goes_on

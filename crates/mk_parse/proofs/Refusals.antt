@@ -14,7 +14,7 @@ use Rattle.mk_parse.specs.Readers.{finished}
 use Rattle.mk_parse.specs.Reading.{program_by}
 use Rattle.mk_parse.specs.Answers.{place_at}
 use Rattle.mk_parse.specs.Parsed.{IsOnlyProgram}
-use Rattle.mk_parse.proofs.Lexed.{lexed_all, lexed_whole, StandsAfter, stands_after}
+use Rattle.mk_parse.proofs.Lexed.{lexed_all, lexed_whole, stands_after, tokens_unique}
 use Rattle.mk_parse.proofs.Munching.{token_unique, token_begins}
 use Rattle.mk_parse.proofs.Many.{all_only, all_found, all_stuck, IsDead, AllStuck}
 use Rattle.mk_parse.proofs.StatementPhrases.{reads_program, more_program}
@@ -115,3 +115,9 @@ module _ (text : List ℕ) (tokens : List Token) (end : Place) (whole : Bool) (l
         refused_by stuck.taken bad stuck.more stuck.value stuck.parts stuck.completed stuck.dead,
         λ q h. no_program stuck.taken bad stuck.parts stuck.dead q (subst (λ (ts : List Spelled). program ts q) (one_list h.0 h.1).0 h.2),
       )
+
+-- a text spells at most one program
+pub one_program : (p q : Program) (text : List ℕ) → Spells p text → Spells q text → p ≡ q
+one_program p q text h k =
+    let same = tokens_unique text k.0 h.0 k.1 h.1 in
+    ok_program p q (sym (all_only reads_program k.0 p (subst (λ (ts : List Spelled). program ts p) same h.2)) ∙ all_only reads_program k.0 q k.2)

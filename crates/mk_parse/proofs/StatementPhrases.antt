@@ -19,7 +19,7 @@ use Rattle.mk_ast.specs.Phrases.{Phrase, nothing, one, made, ◌or◌, ◌and◌
 use Rattle.mk_ast.specs.Grammar.{name, number, size, element, meaning, reference, sum, assignment, heading, statement, class, map_declaration, variable_declaration, declaration, most_brackets, program}
 use Rattle.mk_parse.specs.Readers.{Reader, starts, says, never, fails, skips, takes, makes, ◌next◌, past, ended, chosen, perhaps, every, parted}
 use Rattle.mk_parse.specs.Reading.{is_word, is_among, all_go_on, is_name, name_of, number_of, size_of, element_of, sum_at, reference_at, assignment_at, heading_by, begins_statement, statement_at, loop_at, plain_class, local_class, class_by, image_by, map_by, size_part, variable_by, declaration_by, begins_declaration, field_of, program_by}
-use Rattle.mk_parse.proofs.Laws.{Stops, Reads, BeginsBy, reads_token, reads_made, says_is, is_says}
+use Rattle.mk_parse.proofs.ReaderLaws.{Stops, Reads, BeginsBy, reads_token, reads_made, says_is, is_says}
 use Rattle.mk_parse.proofs.Joined.{token_of, reads_after, after_begins, reads_and}
 use Rattle.mk_parse.proofs.Choices.{reads_same, reads_until, reads_or, reads_closed, stops_never, made_begins, and_begins, one_begins, apart_by}
 use Rattle.mk_parse.proofs.Loops.{shorter}

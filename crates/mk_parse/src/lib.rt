@@ -5,12 +5,14 @@ mod cursor;
 mod declarations;
 mod expressions;
 mod indexes;
+mod laws;
 mod lexer;
 mod program;
 mod statements;
 mod token;
 mod words;
 
+pub use laws::spelling_law;
 pub use lexer::tokens;
 pub use program::parse;
 pub use token::{Token, TokenKind, TokenList};

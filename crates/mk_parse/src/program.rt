@@ -1,14 +1,15 @@
 //! Whole programs, by the grammar.
 
-ghost use Rattle.std.specs.Prelude.{◌≡◌, ◌≤◌, [], length, IsTrue, ◌↔◌, MatchResult};
+ghost use Rattle.std.specs.Prelude.{◌≡◌, ◌≤◌, [], length, IsTrue, ◌↔◌, IfOk, MatchResult};
+ghost use Rattle.mk_ast.specs.Regular.{IsRegular};
 ghost use Rattle.mk_parse.specs.Answers.{Answers, AnswersAll, place_at};
-ghost use Rattle.mk_parse.specs.Parsed.{IsOnlyProgram, IsParseRefusal};
+ghost use Rattle.mk_parse.specs.Parsed.{IsOnlyProgram, IsParseRefusal, FewMaps};
 ghost use Rattle.mk_parse.specs.Readers.{takes, finished};
 ghost use Rattle.mk_parse.specs.Reading.{field_of, program_by};
 
 use crate::cursor::{Cursor, Stop};
 use crate::lexer::{Lexed, lex};
-use mk_ast::{Program, SourceRefusal};
+use mk_ast::{Program, SourceRefusal, spelled_law};
 use mk_base::Place;
 use mk_field::FieldId;
 use std::alloc::Global;
@@ -57,8 +58,11 @@ impl<'a> Cursor<'a> {
 /// it spells none, with the first place where no program can go on.
 pub fn parse(alloc: Global, text: &[u8]) -> Result<Program, SourceRefusal>
     requires { length text.now ≤ 1048576 }
-    ensures { MatchResult result (IsOnlyProgram text.now) (IsParseRefusal text.now) }
+    ensures answer { MatchResult result (IsOnlyProgram text.now) (IsParseRefusal text.now) }
+    ensures regular { IfOk result IsRegular }
+    ensures few_maps { IfOk result FewMaps }
 {
+    spelled_law();
     let Lexed { tokens, end, whole } = lex(alloc, text)?;
     let mut cursor = Cursor::new(alloc, text, tokens.as_slice());
     match cursor.whole_program() {

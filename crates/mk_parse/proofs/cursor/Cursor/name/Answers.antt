@@ -1,6 +1,6 @@
 use Rattle.std.proofs.Common.{◌≡◌, ℕ, List, ◌∙◌, sym, ap}
 use Rattle.mk_base.specs.declared.Place.{Place}
-use Rattle.mk_parse.proofs.Laws.{read}
+use Rattle.mk_parse.proofs.ReaderLaws.{read}
 use Rattle.mk_parse.proofs.Terminals.{name_refused, name_taken}
 use Rattle.mk_parse.proofs.cursor.Cursor.name.Goals as goal
 
