@@ -76,3 +76,6 @@ pub fn parse(alloc: Global, text: &[u8]) -> Result<Program, SourceRefusal>
         Err(Stop::Memory) => Err(SourceRefusal::Memory),
     }
 }
+
+#[cfg(test)]
+mod tests;
