@@ -24,22 +24,27 @@ use Rattle.mk_ast.specs.declared.tree.Link.TheVariants as link
 abbrev pub nowhere : Place
 nowhere = record { line = 0; column = 0 }
 
+-- one layer of an index, whose parts are without places
 abbrev pub placeless_index_layer : Index-F Index Link → Index
 placeless_index_layer (Index-F.Num n) = index.Num n
 placeless_index_layer (Index-F.Var name at) = index.Var name nowhere
 placeless_index_layer (Index-F.Sum parts) = index.Sum parts
 placeless_index_layer (Index-F.Chain first links) = index.Chain first links
 
+-- one layer of a link
 abbrev pub placeless_link_layer : Link-F Index Link → Link
 placeless_link_layer (Link-F.Times by) = link.Times by
 placeless_link_layer (Link-F.Mod n) = link.Mod n
 
+-- an index without places
 abbrev pub placeless_index : Index → Index
 placeless_index = fold-Index Index Link placeless_index_layer placeless_link_layer
 
+-- a reference without places
 abbrev pub placeless_ref : Ref → Ref
 placeless_ref r = record { name = r.name; at = nowhere; index = option_map placeless_index r.index }
 
+-- one layer of an expression
 abbrev pub placeless_expr_layer : Expr-F Expr → Expr
 placeless_expr_layer (Expr-F.Lit value at) = expr.Lit value nowhere
 placeless_expr_layer (Expr-F.Read from) = expr.Read (placeless_ref from)
@@ -48,16 +53,20 @@ placeless_expr_layer (Expr-F.Apply name at arg) = expr.Apply name nowhere arg
 placeless_expr_layer (Expr-F.Sum parts) = expr.Sum parts
 placeless_expr_layer (Expr-F.Product parts) = expr.Product parts
 
+-- an expression without places
 abbrev pub placeless_expr : Expr → Expr
 placeless_expr = fold-Expr Expr placeless_expr_layer
 
+-- one layer of a statement
 abbrev pub placeless_stmt_layer : Stmt-F Stmt → Stmt
 placeless_stmt_layer (Stmt-F.Set target value) = stmt.Set (placeless_ref target) (placeless_expr value)
 placeless_stmt_layer (Stmt-F.Loop name at from to body) = stmt.Loop name nowhere from to body
 
+-- a statement without places
 abbrev pub placeless_stmt : Stmt → Stmt
 placeless_stmt = fold-Stmt Stmt placeless_stmt_layer
 
+-- a declaration without its place
 abbrev pub placeless_decl : Decl → Decl
 placeless_decl d = record d { at = nowhere }
 

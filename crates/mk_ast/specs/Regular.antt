@@ -41,9 +41,11 @@ Wrapped false P = P
 
 -- One layer of an index. Its parts are any things, each with its tree and what makes it regular.
 module _ (X Y : Type 0) (tree : X → Index) (IsRegular : X → ℕ → Type 0) (IsRegularLink : Y → ℕ → Type 0) where
+  -- a factor of a chain
   abbrev pub IsRegularFactor : ℕ → X → Type 0
   IsRegularFactor brackets i = Wrapped (is_index_sum (tree i) || is_chain (tree i)) (IsRegular i) brackets
 
+  -- the layer of an index
   abbrev pub IsRegularIndexLayer : Index-F X Y → ℕ → Type 0
   IsRegularIndexLayer (Index-F.Num n) brackets = IsInRange n
   IsRegularIndexLayer (Index-F.Var name at) brackets = IsName name
@@ -52,20 +54,24 @@ module _ (X Y : Type 0) (tree : X → Index) (IsRegular : X → ℕ → Type 0) 
   IsRegularIndexLayer (Index-F.Chain first links) brackets =
       IsRegularFactor brackets first × (1 ≤ length links) × AllByRecursion (λ link. IsRegularLink link brackets) links
 
+  -- the layer of a link
   abbrev pub IsRegularLinkLayer : Link-F X Y → ℕ → Type 0
   IsRegularLinkLayer (Link-F.Times by) brackets = IsRegularFactor brackets by
   IsRegularLinkLayer (Link-F.Mod n) brackets = IsSize n
 
+-- a regular index, with so many brackets that may still be opened
 abbrev pub IsRegularIndex : Index → ℕ → Type 0
 IsRegularIndex =
     rec-Index (ℕ → Type 0) (ℕ → Type 0)
     (λ X Y tree link R S. IsRegularIndexLayer X Y tree R S)
     (λ X Y tree link R S. IsRegularLinkLayer X Y tree R S)
 
+-- the brackets behind the name of an array, if there are any
 abbrev pub IsRegularSubscript : Option Index → ℕ → Type 0
 IsRegularSubscript None brackets = Unit {0}
 IsRegularSubscript (Some i) brackets = Within (IsRegularIndex i) brackets
 
+-- a regular reference
 abbrev pub IsRegularRef : Ref → ℕ → Type 0
 IsRegularRef r brackets = IsName r.name × IsRegularSubscript r.index brackets
 
@@ -82,6 +88,7 @@ module _ (X : Type 0) (tree : X → Expr) (IsRegular : X → ℕ → Type 0) whe
       (2 ≤ length parts)
       × AllByRecursion (λ part. Wrapped (is_sum (tree part) || is_product (tree part)) (IsRegular part) brackets) parts
 
+-- a regular expression
 abbrev pub IsRegularExpr : Expr → ℕ → Type 0
 IsRegularExpr = rec-Expr (ℕ → Type 0) IsRegularExprLayer
 
@@ -91,14 +98,17 @@ IsRegularStmtLayer X IsRegular (Stmt-F.Set target value) brackets = IsRegularRef
 IsRegularStmtLayer X IsRegular (Stmt-F.Loop name at from to body) brackets =
     IsName name × IsInRange from × IsInRange to × Within (λ inside. AllByRecursion (λ s. IsRegular s inside) body) brackets
 
+-- a regular statement
 abbrev pub IsRegularStmt : Stmt → ℕ → Type 0
 IsRegularStmt = rec-Stmt (ℕ → Type 0) (λ X tree. IsRegularStmtLayer X)
 
+-- what a name may be declared to be: a map has at least one image
 abbrev pub IsRegularWhat : What → Type 0
 IsRegularWhat (what.Map images) = (1 ≤ length images) × AllByRecursion (λ image. image < 256) images
 IsRegularWhat (what.Var class None) = Unit {0}
 IsRegularWhat (what.Var class (Some n)) = IsSize n
 
+-- a regular declaration
 abbrev pub IsRegularDecl : Decl → Type 0
 IsRegularDecl d = IsName d.name × IsRegularWhat d.what
 
