@@ -23,11 +23,7 @@ fn is_canonical(alloc: Global, text: &[u8], canonical: &[u8]) -> Result<bool, So
 #[test]
 fn parses_what_is_written(rt: HostRuntime) -> Result<(), SourceRefusal> {
     let alloc = rt.alloc();
-    let declared = is_canonical(
-        alloc,
-        b"field gf2;output y ;",
-        b"field gf2;\noutput y;\n",
-    )?;
+    let declared = is_canonical(alloc, b"field gf2;output y ;", b"field gf2;\noutput y;\n")?;
     assert!(rt; declared);
     let stated = is_canonical(
         alloc,
