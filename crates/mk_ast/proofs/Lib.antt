@@ -1,0 +1,12 @@
+pub mod Induction
+pub mod ExprReading
+pub mod IndexReading
+pub mod Joined
+pub mod Layers
+pub mod ProgramReading
+pub mod Reading
+pub mod RegularLayers
+pub mod SpelledIndex
+pub mod SpelledProgram
+pub mod StmtReading
+pub mod TokenTexts

@@ -1,0 +1,16 @@
+mod ReaderLaws
+mod Joined
+mod Choices
+mod Many
+pub mod Decoding
+mod Terminals
+mod Loops
+mod IndexPhrases
+mod ExpressionPhrases
+mod StatementPhrases
+pub mod Gaps
+pub mod Munching
+pub mod Placing
+pub mod Lexed
+mod Refusals
+mod Few

@@ -1,0 +1,123 @@
+-- What the reading of all tokens says of the text: the one program that it spells, or the place where
+-- it is refused.
+use Rattle.std.proofs.Common.{◌≡◌, ℕ, ◌+◌, ◌≤◌, ◌<◌, Bool, true, false, ◌⊎◌, inl, inr, List, [], ◌∷◌, ◌++◌, length, map, Result, Ok, Err, refl, sym, ap, subst, ◌∙◌, arith, append_assoc, length-append}
+use Rattle.std.proofs.lemmas.Bool.{false≢true}
+use Rattle.std.proofs.lemmas.List.{append-nil}
+use Rattle.mk_base.specs.declared.Place.{Place}
+use Rattle.mk_ast.specs.declared.tree.Program.{Program}
+use Rattle.mk_ast.specs.Tokens.{Token as Spelled, IsGap, IsLastGap, IsToken, BeginsWith, AreTokens, place_of}
+use Rattle.mk_ast.specs.Grammar.{program}
+use Rattle.mk_ast.specs.Spells.{Spells, CanGoOn, NoGapBegins, NothingFits, IsRefusedAt}
+use Rattle.mk_parse.specs.declared.token.Token.{Token}
+use Rattle.mk_parse.specs.Lexing.{seen, NoTokenBegins, IsLexed, AreAllTokens}
+use Rattle.mk_parse.specs.Readers.{finished}
+use Rattle.mk_parse.specs.Reading.{program_by}
+use Rattle.mk_parse.specs.Answers.{place_at}
+use Rattle.mk_parse.specs.Parsed.{IsOnlyProgram}
+use Rattle.mk_parse.proofs.Lexed.{lexed_all, lexed_whole, stands_after, tokens_unique}
+use Rattle.mk_parse.proofs.Munching.{token_unique, token_begins}
+use Rattle.mk_parse.proofs.Many.{all_only, all_found, all_stuck, IsDead, AllStuck}
+use Rattle.mk_parse.proofs.StatementPhrases.{reads_program, more_program}
+
+abbrev spells_so : Program → Result Program (List Spelled)
+spells_so p = Ok p
+
+ok_program : (p q : Program) → spells_so p ≡ spells_so q → p ≡ q
+ok_program p q e = cc
+
+same_token : (t u : Spelled) → u.text ≡ t.text → u.at ≡ t.at → u ≡ t
+same_token t u p q = ap (λ (text : List ℕ). token_by text u.at) p ∙ ap (λ (at : Place). token_by t.text at) q
+  where
+    token_by : List ℕ → Place → Spelled
+    token_by text at = record { text = text; at = at }
+
+-- a token that stands there is this one, and no program goes on with it
+nothing_fits : (taken : List Spelled) (t : Spelled) (behind here : List ℕ) → here ≡ t.text ++ behind → IsToken t.text behind
+    → ((more : List Spelled) (p : Program) → program ((taken ++ t ∷ []) ++ more) p → ⊥) → NothingFits t.at taken here
+nothing_fits taken t behind [] is is_token dead =
+    absurd (omega (arith, ap length is, length-append t.text behind, (token_begins t.text behind is_token).0))
+nothing_fits taken t behind (b ∷ bs) is is_token dead = λ u rest parts also at goes_on.
+    let same = token_unique u.text t.text rest behind also is_token (sym parts ∙ is) in
+    let whole = same_token t u same.0 at in
+    dead goes_on.0 goes_on.1 (subst (λ (x : Spelled). program ((taken ++ x ∷ []) ++ goes_on.0) goes_on.1) whole goes_on.2)
+
+module _ (text : List ℕ) (tokens : List Token) (end : Place) (whole : Bool) (lexed : IsLexed text tokens end whole) where
+  -- the tokens of the text are these, and then the text ends behind them
+  pub one_list : (others : List Spelled) → AreTokens text others → (others ≡ map (seen text) tokens) × (whole ≡ true)
+  one_list others h = lexed_all text tokens end whole lexed others h
+
+  pub only_program : (p : Program) → whole ≡ true → finished (program_by (map (seen text) tokens)) ≡ Ok p → IsOnlyProgram text p
+  only_program p is e = record {
+    spelled = (map (seen text) tokens, (lexed_whole text tokens end whole lexed is).all, all_found reads_program (map (seen text) tokens) p e);
+    alone = λ q h.
+        let same = (one_list h.0 h.1).0 in
+        ok_program q p (sym (all_only reads_program (map (seen text) tokens) q (subst (λ (ts : List Spelled). program ts q) same h.2)) ∙ e);
+  }
+
+  -- nothing stands where no token begins
+  no_fit : (at : Place) (taken : List Spelled) (here : List ℕ) → NoTokenBegins here → (here ≡ [] → (p : Program) → program taken p → ⊥) → NothingFits at taken here
+  no_fit at taken [] stuck dead = dead refl
+  no_fit at taken (b ∷ bs) stuck dead = λ t rest parts is_token same goes_on. stuck t.text rest parts is_token
+
+  pub not_whole : (p : Program) → whole ≡ false → finished (program_by (map (seen text) tokens)) ≡ Ok p → IsRefusedAt text end × ((q : Program) → Spells q text → ⊥)
+  not_whole p isnt e = (
+    record {
+      tokens = map (seen text) tokens;
+      gap = lexed.gap;
+      here = lexed.here;
+      before = lexed.before;
+      is_gap = lexed.is_gap;
+      begins = lexed.begins;
+      place = lexed.place;
+      goes_on = ([], p, subst (λ (ts : List Spelled). program ts p) (sym (append-nil (map (seen text) tokens))) (all_found reads_program (map (seen text) tokens) p e));
+      stuck = no_fit end (map (seen text) tokens) lexed.here lexed.stuck (λ none. absurd (false≢true (sym isnt ∙ lexed.ended.1 none)));
+    },
+    λ q h. false≢true (sym isnt ∙ (one_list h.0 h.1).1),
+  )
+
+  -- the place of the first token that doesn't fit, or of the end
+  refused_by : (taken bad : List Spelled) (more : List Spelled) (value : Program) → map (seen text) tokens ≡ taken ++ bad → program (taken ++ more) value → IsDead reads_program taken bad
+      → IsRefusedAt text (place_at end bad)
+  refused_by taken [] more value parts completed dead =
+      let same : map (seen text) tokens ≡ taken = parts ∙ append-nil taken in
+      record {
+        tokens = taken;
+        gap = lexed.gap;
+        here = lexed.here;
+        before = subst (λ (ts : List Spelled). BeginsWith text text ts (lexed.gap ++ lexed.here)) same lexed.before;
+        is_gap = lexed.is_gap;
+        begins = lexed.begins;
+        place = lexed.place;
+        goes_on = (more, value, completed);
+        stuck = no_fit end taken lexed.here lexed.stuck (λ none. dead);
+      }
+  refused_by taken (t ∷ ts) more value parts completed dead =
+      let stands = stands_after text taken t ts (lexed.gap ++ lexed.here) (subst (λ (us : List Spelled). BeginsWith text text us (lexed.gap ++ lexed.here)) parts lexed.before) in
+      record {
+        tokens = taken;
+        gap = stands.gap;
+        here = t.text ++ stands.behind;
+        before = stands.before;
+        is_gap = inl stands.is_gap;
+        begins = stands.begins;
+        place = stands.place;
+        goes_on = (more, value, completed);
+        stuck = nothing_fits taken t stands.behind (t.text ++ stands.behind) refl stands.is_token dead;
+      }
+
+  no_program : (taken bad : List Spelled) → map (seen text) tokens ≡ taken ++ bad → IsDead reads_program taken bad → (q : Program) → program (map (seen text) tokens) q → ⊥
+  no_program taken [] parts dead = λ q h. dead q (subst (λ (ts : List Spelled). program ts q) (parts ∙ append-nil taken) h)
+  no_program taken (t ∷ ts) parts dead = λ q h. dead ts q (subst (λ (us : List Spelled). program us q) (parts ∙ sym (append_assoc taken (t ∷ []) ts)) h)
+
+  pub refused_at : (bad : List Spelled) → finished (program_by (map (seen text) tokens)) ≡ Err bad → IsRefusedAt text (place_at end bad) × ((q : Program) → Spells q text → ⊥)
+  refused_at bad e =
+      let stuck = all_stuck reads_program (map (seen text) tokens) bad e in (
+        refused_by stuck.taken bad stuck.more stuck.value stuck.parts stuck.completed stuck.dead,
+        λ q h. no_program stuck.taken bad stuck.parts stuck.dead q (subst (λ (ts : List Spelled). program ts q) (one_list h.0 h.1).0 h.2),
+      )
+
+-- a text spells at most one program
+pub one_program : (p q : Program) (text : List ℕ) → Spells p text → Spells q text → p ≡ q
+one_program p q text h k =
+    let same = tokens_unique text k.0 h.0 k.1 h.1 in
+    ok_program p q (sym (all_only reads_program k.0 p (subst (λ (ts : List Spelled). program ts p) same h.2)) ∙ all_only reads_program k.0 q k.2)

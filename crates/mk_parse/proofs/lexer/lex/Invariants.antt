@@ -1,0 +1,10 @@
+-- The tokens so far reach as far as the text was read, which the rest of it shortens.
+use Rattle.std.proofs.Common.{◌-◌, length}
+use Rattle.mk_parse.proofs.Lexed.{Reached}
+use Rattle.mk_parse.proofs.lexer.lex.Given as goal
+
+abbrev pub invariant-loop-kind : goal.invariant-loop-kind
+invariant-loop-kind l = Reached l.text l.tokens l.spot.index l.spot.at
+
+abbrev pub decreases-loop-kind : goal.decreases-loop-kind
+decreases-loop-kind l = length l.text - l.spot.index

@@ -1,0 +1,18 @@
+//! Reading source texts: their tokens, and the programs that they spell.
+#![tactic(auto)]
+
+mod cursor;
+mod declarations;
+mod expressions;
+mod indexes;
+mod laws;
+mod lexer;
+mod program;
+mod statements;
+mod token;
+mod words;
+
+pub use laws::spelling_law;
+pub use lexer::tokens;
+pub use program::parse;
+pub use token::{Token, TokenKind, TokenList};

@@ -1,0 +1,125 @@
+//! What the bytes of a token say.
+
+ghost use Rattle.std.specs.Prelude.{◌≡◌, ℕ, ◌≤◌, ◌<◌, ◌↔◌, length, slice_index, IfSome, IsTrue, MatchOption, Contains};
+ghost use Rattle.mk_ast.specs.Tokens.{hex_value, reserved, IsElement, IsNumber};
+ghost use Rattle.mk_parse.specs.Reading.{number_text, element_text};
+
+/// Whether there is a digit, and `0` is the first one only where it is the only one.
+fn leads(digits: &[u8]) -> bool
+    ensures { IsTrue result ↔ ((0 < length digits.now) × (slice_index digits.now 0 ≡ 48 → length digits.now ≡ 1)) }
+{
+    match digits {
+        [] => false,
+        [_] => true,
+        [first, _, ..] => *first != b'0',
+    }
+}
+
+/// The number, of at most 65,535, that this text writes in decimal digits without leading zeros.
+pub(crate) fn number(text: &[u8]) -> Option<u32>
+    ensures { MatchOption result ((n : ℕ) → IsNumber n text.now → ⊥) (λ n. IsNumber n text.now) }
+{
+    if !leads(text) {
+        return None;
+    }
+    let mut value = 0u32;
+    for digit in text {
+        if !digit.is_ascii_digit() {
+            return None;
+        }
+        value = value * 10 + u32::from(*digit - b'0');
+        if value > 0xffff {
+            return None;
+        }
+    }
+    Some(value)
+}
+
+/// The value of a hexadecimal digit of either case.
+fn hex_value(digit: u8) -> Option<u8>
+    ensures value { result ≡ hex_value digit }
+    ensures low { IfSome result (λ value. value ≤ 15) }
+{
+    if digit < b'0' {
+        return None;
+    }
+    if digit < b'0' + 10 {
+        return Some(digit - b'0');
+    }
+    if digit < b'A' {
+        return None;
+    }
+    if digit < b'A' + 6 {
+        return Some(digit - b'A' + 10);
+    }
+    if digit < b'a' {
+        return None;
+    }
+    if digit < b'a' + 6 {
+        return Some(digit - b'a' + 10);
+    }
+    None
+}
+
+/// The element that this text writes as `0x` and two hexadecimal digits.
+pub(crate) fn element(text: &[u8]) -> Option<u8>
+    ensures { MatchOption result ((value : ℕ) → IsElement value text.now → ⊥) (λ value. IsElement value text.now) }
+{
+    let [b'0', b'x', first, second] = text else {
+        return None;
+    };
+    let high = hex_value(*first)?;
+    let low = hex_value(*second)?;
+    Some(16 * high + low)
+}
+
+/// The number that this text is, as the reader of numbers gives it.
+pub(crate) fn number_value(text: &[u8]) -> Option<u32>
+    ensures { result ≡ number_text text.now }
+{
+    number(text)
+}
+
+/// The element that this text is, as the reader of elements gives it.
+pub(crate) fn element_value(text: &[u8]) -> Option<u8>
+    ensures { result ≡ element_text text.now }
+{
+    element(text)
+}
+
+/// Whether this word is reserved.
+pub(crate) fn is_reserved(word: &[u8]) -> bool
+    ensures { IsTrue result ↔ Contains reserved word.now }
+{
+    if word == b"field".as_slice() {
+        return true;
+    }
+    if word == b"gf2".as_slice() {
+        return true;
+    }
+    if word == b"gf256".as_slice() {
+        return true;
+    }
+    if word == b"map".as_slice() {
+        return true;
+    }
+    if word == b"secret".as_slice() {
+        return true;
+    }
+    if word == b"public".as_slice() {
+        return true;
+    }
+    if word == b"output".as_slice() {
+        return true;
+    }
+    if word == b"local".as_slice() {
+        return true;
+    }
+    if word == b"for".as_slice() {
+        return true;
+    }
+    if word == b"in".as_slice() {
+        return true;
+    }
+    word == b"sq".as_slice()
+}
