@@ -1,34 +1,59 @@
--- Small cases of what texts spell.
-use Rattle.std.proofs.Common.{◌≡◌, [], ◌∷◌, refl, inl, inr, lit<}
-use Rattle.std.specs.Prelude.{codes, false, true}
+-- Small cases of trees of the first form.
+use Rattle.std.proofs.Common.{◌≡◌, ℕ, List, [], ◌∷◌, ◌++◌, map, Option, Some, None, refl, ap}
+use Rattle.std.specs.Prelude.{codes}
+use Rattle.mk_base.specs.declared.Place.{Place}
+use Rattle.mk_field.specs.declared.field.FieldId.TheVariants.{Gf256}
+use Rattle.mk_ast.specs.declared.tree.Program.{Program as Tree}
+use Rattle.mk_ast.specs.declared.tree.Decl.{Decl}
+use Rattle.mk_ast.specs.declared.tree.What.{What}
+use Rattle.mk_ast.specs.declared.tree.What.TheVariants.{Var}
+use Rattle.mk_ast.specs.declared.tree.Class.{Class}
+use Rattle.mk_ast.specs.declared.tree.Class.TheVariants.{Secret, Output}
+use Rattle.mk_ast.specs.declared.tree.Stmt.TheVariants.{Set}
+use Rattle.mk_ast.specs.declared.tree.Ref.{Ref}
+use Rattle.mk_ast.specs.declared.tree.Expr.TheVariants.{Read, Sum}
 use Rattle.mk_top.specs.declared.first.Program.{Program}
-use Rattle.mk_top.specs.First.{Next, IsWord, IsName, AreTokens, tokens_of}
+use Rattle.mk_top.specs.First.{declared, scalar, IsTreeOf}
 
 -- `y = a + b`, with the secrets a and b
 abbrev pub sum_of_two : Program
 sum_of_two = record { secrets = codes "a" ∷ codes "b" ∷ []; output = codes "y"; parts = codes "a" ∷ codes "b" ∷ [] }
 
--- its tokens
-pub tokens-sum_of_two : tokens_of sum_of_two
-    ≡ codes "field" ∷ codes "gf256" ∷ codes ";" ∷ codes "secret" ∷ codes "a" ∷ codes ";" ∷ codes "secret" ∷ codes "b" ∷ codes ";" ∷ codes "output" ∷ codes "y"
-    ∷ codes ";" ∷ codes "y" ∷ codes "=" ∷ codes "a" ∷ codes "+" ∷ codes "b" ∷ codes ";" ∷ []
-tokens-sum_of_two = refl
+-- any place
+abbrev somewhere : Place
+somewhere = record { line = 2; column = 8 }
 
--- a word is as long as it can be
-pub next-word : Next (codes " ab;") (codes "ab") (codes ";")
-next-word = record { gap = codes " "; blank = (refl, tt); parts = refl; kind = inr ((refl, (refl, tt), lit< tt), refl) }
+abbrev variable : List ℕ → Class → Option ℕ → Decl
+variable name class size = record { name = name; at = somewhere; what = Var class size }
 
--- and no shorter
-pub no_next-shorter : Next (codes "ab;") (codes "a") (codes "b;") → ⊥
-no_next-shorter h = elim h.kind [ inl symbol ↦ absurd cc | inr word ↦ absurd cc ]
+abbrev reference : List ℕ → Ref
+reference name = record { name = name; at = somewhere; index = None }
 
--- a digit begins no word, and `in` is no name
-pub no_word-digit : IsWord (codes "1a") → ⊥
-no_word-digit h = let never : false ≡ true = h.0 in cc
+-- `field gf256`, the declarations and the sum, as a tree
+abbrev tree_of_two : Tree
+tree_of_two = record {
+  field = Gf256;
+  decls = variable (codes "a") Secret None ∷ variable (codes "b") Secret None ∷ variable (codes "y") Output None ∷ [];
+  body = Set (reference (codes "y")) (Sum (Read (reference (codes "a")) ∷ Read (reference (codes "b")) ∷ [])) ∷ [];
+}
 
-pub no_name-in : IsName (codes "in") → ⊥
-no_name-in h = let never : true ≡ false = h.1 in cc
+-- the program's tree
+pub tree-sum_of_two : IsTreeOf tree_of_two sum_of_two
+tree-sum_of_two = record {
+  field = refl;
+  declarations = refl;
+  target = reference (codes "y");
+  parts = reference (codes "a") ∷ reference (codes "b") ∷ [];
+  statement = refl;
+  output = refl;
+  sum = refl;
+}
 
--- the tokens of ` a; `
-pub tokens-two : AreTokens (codes "a" ∷ codes ";" ∷ []) (codes " a; ")
-tokens-two = (codes "; ", record { gap = codes " "; blank = (refl, tt); parts = refl; kind = inr ((refl, tt, lit< tt), refl) }, (codes " ", record { gap = []; blank = tt; parts = refl; kind = inl refl }, (refl, tt)))
+-- an array of secrets is no secret of the first form
+pub no_tree-array : (secrets : List (List ℕ)) (output : List ℕ)
+    → map declared (variable (codes "a") Secret (Some 2) ∷ variable (codes "y") Output None ∷ []) ≡ map (scalar Secret) secrets ++ scalar Output output ∷ [] → ⊥
+no_tree-array [] output e = absurd cc
+no_tree-array (s ∷ ss) output e =
+    let first : declared (variable (codes "a") Secret (Some 2)) ≡ scalar Secret s = cc in
+    let what : Var Secret (Some 2) ≡ Var Secret None = ap (λ (x : List ℕ × What). x.1) first in
+    absurd cc

@@ -2,6 +2,7 @@
 use Rattle.std.proofs.Common.{◌≡◌, ℕ, ◌+◌, ◌<◌, ◌≤◌, List, [], ◌∷◌, ◌++◌, Option, Some, None, length, inl, inr, refl, sym, ◌∙◌, ap, subst, arith, ◌⊎◌}
 use Rattle.std.proofs.lemmas.Bool.{cases_lt}
 use Rattle.std.proofs.lemmas.List.{append-nil}
+use Rattle.mk_base.specs.declared.Place.{Place}
 use Rattle.mk_code.specs.Listing.{Listing}
 use Rattle.mk_rules.specs.Claimed.{Claimed}
 use Rattle.mk_gadget.specs.Gadget.{Gadget}
@@ -12,8 +13,9 @@ use Rattle.mk_bundle.specs.Pairs.{IsPair, IsBundleText, NamesFirst, TextsDiffer}
 use Rattle.mk_top.specs.declared.command.Command.{Command}
 use Rattle.mk_top.specs.declared.command.Command.TheVariants.{Compile, Check}
 use Rattle.mk_top.specs.declared.fault.Fault.{Fault}
-use Rattle.mk_top.specs.declared.fault.Fault.TheVariants.{NotYet, TooLong, Bundle, Tile, Operand, Output}
+use Rattle.mk_top.specs.declared.fault.Fault.TheVariants.{NotYet, Syntax, TooLong, Bundle, Tile, Operand, Output}
 use Rattle.mk_top.specs.Words.{Asks}
+use Rattle.mk_top.proofs.Refused.{refused-one}
 use Rattle.mk_top.specs.Answers.{PairDecides, BundleDecides, SourceDecides, TextDecides, Decides, limit_of}
 
 -- the words ask for one command
@@ -71,11 +73,17 @@ pair-one code cert (Some fault) b first second = absurd first
 -- a source decides one answer
 source-one : (bytes : List ℕ) (a b : Option Fault) → SourceDecides bytes a → SourceDecides bytes b → a ≡ b
 source-one bytes None None first second = refl
-source-one bytes None (Some NotYet) first second = absurd (second first.0 first.1)
+source-one bytes None (Some NotYet) first second = absurd (second.other first.0 first.1 first.2.0 first.2.1)
+source-one bytes None (Some (Syntax at)) first second = absurd (second.1 first.0 first.1)
 source-one bytes None (Some fault) first second = absurd second
-source-one bytes (Some NotYet) None first second = absurd (first second.0 second.1)
+source-one bytes (Some NotYet) None first second = absurd (first.other second.0 second.1 second.2.0 second.2.1)
 source-one bytes (Some NotYet) (Some NotYet) first second = refl
+source-one bytes (Some NotYet) (Some (Syntax at)) first second = absurd (second.1 first.tree first.spelled)
 source-one bytes (Some NotYet) (Some fault) first second = absurd second
+source-one bytes (Some (Syntax at)) None first second = absurd (first.1 second.0 second.1)
+source-one bytes (Some (Syntax at)) (Some NotYet) first second = absurd (first.1 second.tree second.spelled)
+source-one bytes (Some (Syntax at)) (Some (Syntax place)) first second = ap (λ (p : Place). Some (Syntax p)) (refused-one bytes at place first.0 second.0)
+source-one bytes (Some (Syntax at)) (Some fault) first second = absurd second
 source-one bytes (Some fault) b first second = absurd first
 
 -- the line that is named is one

@@ -4,8 +4,9 @@ use Rattle.mk_base.specs.Streams.{ReadsAll}
 use Rattle.mk_top.specs.declared.command.Command.{Command}
 use Rattle.mk_top.specs.declared.command.Command.TheVariants.{Compile, Check}
 use Rattle.mk_top.specs.declared.fault.Fault.{Fault}
-use Rattle.mk_top.specs.declared.fault.Fault.TheVariants.{Words, NotYet, ReadFault, WriteFault, Memory, TooLong, Bundle, Tile, Operand, Output}
-use Rattle.mk_top.specs.Answers.{ReadWhole, Compiles, Checks, SpelledBy, limit_of, TextDecides, IsAnswerOf}
+use Rattle.mk_top.specs.declared.fault.Fault.TheVariants.{Words, NotYet, Syntax, ReadFault, WriteFault, Memory, TooLong, Bundle, Tile, Operand, Output}
+use Rattle.mk_top.specs.Answers.{ReadWhole, Compiles, Checks, limit_of, TextDecides, IsAnswerOf}
+use Rattle.mk_top.specs.First.{IsSourceOf}
 use Rattle.mk_top.specs.Faults.{status_of}
 use Rattle.mk_top.specs.Running.{NotMade, NoText}
 
@@ -29,7 +30,7 @@ compiles-given (Some rest) after bytes written order read c = record {
   program = c.program;
   code = c.code;
   cert = c.cert;
-  source = subst (SpelledBy c.program) read.whole c.source;
+  source = subst (λ (bs : List ℕ). IsSourceOf bs c.program) read.whole c.source;
   compiled = c.compiled;
   correct = c.correct;
   private = c.private;
@@ -86,6 +87,7 @@ decides-given (Some rest) after bytes P read holds = subst P read.whole holds
 -- a fault that the bytes decide under a command has one of its answers
 answer-of : (command : Command) (bytes : List ℕ) (fault : Fault) → TextDecides command bytes (Some fault) → IsAnswerOf command (status_of fault)
 answer-of (Compile order) bytes NotYet decides = tt
+answer-of (Compile order) bytes (Syntax at) decides = tt
 answer-of (Compile order) bytes fault decides = absurd decides
 answer-of Check bytes NotYet decides = tt
 answer-of Check bytes (Bundle line) decides = tt
@@ -100,6 +102,8 @@ not_made-given : (command : Command) (given after : Option (List ℕ)) (reads th
 not_made-given command given after reads then_reads bytes Words within read why = why
 not_made-given command given after reads then_reads bytes NotYet within read why =
     (decides-given given after bytes (λ bs. TextDecides command bs (Some NotYet)) read why, read-given given after bytes (limit_of command) within read, answer-of command bytes NotYet why)
+not_made-given command given after reads then_reads bytes (Syntax at) within read why =
+    (decides-given given after bytes (λ bs. TextDecides command bs (Some (Syntax at))) read why, read-given given after bytes (limit_of command) within read, answer-of command bytes (Syntax at) why)
 not_made-given command given after reads then_reads bytes ReadFault within read why = absurd why
 not_made-given command given after reads then_reads bytes WriteFault within read why = why
 not_made-given command given after reads then_reads bytes Memory within read why = tt

@@ -1,7 +1,4 @@
-pub mod Fronts
-pub mod Tokens
-pub mod Phrases
-pub mod Trees
+pub mod Shapes
 pub mod Cases
 pub mod Ranges
 pub mod Chain
@@ -14,5 +11,6 @@ pub mod Commands
 pub mod SumCases
 pub mod Given
 pub mod SumText
+pub mod Refused
 pub mod Deciding
 pub mod Ends

@@ -13,14 +13,16 @@ use Rattle.mk_rules.specs.Places.{FirstUnwired, FirstOffTile, FirstWrongOutput}
 use Rattle.mk_rules.specs.Sums.{AreSums}
 use Rattle.mk_bundle.specs.Text.{text}
 use Rattle.mk_bundle.specs.Pairs.{IsPair, IsBundleText, NamesFirst}
+use Rattle.mk_ast.specs.declared.tree.Program.{Program as Tree}
+use Rattle.mk_ast.specs.Spells.{Spells, IsRefusedAt}
 use Rattle.mk_top.specs.declared.first.Program.{Program}
 use Rattle.mk_top.specs.declared.command.Command.{Command}
 use Rattle.mk_top.specs.declared.command.Command.TheVariants.{Compile, Check}
 use Rattle.mk_top.specs.declared.status.Status.{Status}
 use Rattle.mk_top.specs.declared.status.Status.TheVariants as status
 use Rattle.mk_top.specs.declared.fault.Fault.{Fault}
-use Rattle.mk_top.specs.declared.fault.Fault.TheVariants.{Words, NotYet, ReadFault, WriteFault, Memory, TooLong, Bundle, Tile, Operand, Output}
-use Rattle.mk_top.specs.First.{Spells}
+use Rattle.mk_top.specs.declared.fault.Fault.TheVariants.{Words, NotYet, Syntax, ReadFault, WriteFault, Memory, TooLong, Bundle, Tile, Operand, Output}
+use Rattle.mk_top.specs.First.{HasFirstForm, IsSourceOf, IsNoSource, IsOtherSource}
 use Rattle.mk_top.specs.Correct.{Correct}
 use Rattle.mk_top.specs.Compiled.{IsCompiled}
 use Rattle.mk_top.specs.Faults.{status_of, fault_line}
@@ -29,14 +31,6 @@ use Rattle.mk_top.specs.Faults.{status_of, fault_line}
 abbrev pub limit_of : Command → ℕ
 limit_of (Compile order) = 1048576
 limit_of Check = 268435456
-
--- the bytes are spelled by this program, and by no other
-abbrev pub SpelledBy : Program → List ℕ → Type 0
-SpelledBy p bytes = Spells p bytes × ((q : Program) → Spells q bytes → q ≡ p)
-
--- the bytes are spelled by no program
-abbrev pub IsNoSource : List ℕ → Type 0
-IsNoSource bytes = (p : Program) → Spells p bytes → ⊥
 
 -- the rule accepts the code with its certificate, whatever gadgets stand for products and refreshes
 abbrev pub IsAccepted : Listing → Claimed → Type 0
@@ -57,6 +51,7 @@ abbrev pub PairDecides : Listing → Claimed → Option Fault → Type 0
 PairDecides code cert None = AreSums cert.blocks × IsAccepted code cert
 PairDecides code cert (Some Words) = ⊥
 PairDecides code cert (Some NotYet) = AreSums cert.blocks → ⊥
+PairDecides code cert (Some (Syntax at)) = ⊥
 PairDecides code cert (Some ReadFault) = ⊥
 PairDecides code cert (Some WriteFault) = ⊥
 PairDecides code cert (Some Memory) = ⊥
@@ -74,10 +69,12 @@ abbrev pub BundleDecides : List ℕ → Option Fault → Type 0
 BundleDecides bytes (Some (Bundle line)) = NamesFirst line bytes × (IsBundleText bytes → ⊥)
 BundleDecides bytes answer = (code : Listing) × (cert : Claimed) × IsPair code cert × (bytes ≡ text code cert) × PairDecides code cert answer
 
--- the answer that a source decides: whether a program spells it
+-- the answer that a source decides: it spells a tree of the first form, or only others, or none, and
+-- then its first place where no program can go on
 abbrev pub SourceDecides : List ℕ → Option Fault → Type 0
-SourceDecides bytes None = (p : Program) × Spells p bytes
-SourceDecides bytes (Some NotYet) = IsNoSource bytes
+SourceDecides bytes None = (tree : Tree) × Spells tree bytes × ((p : Program) × HasFirstForm tree p)
+SourceDecides bytes (Some NotYet) = IsOtherSource bytes
+SourceDecides bytes (Some (Syntax at)) = IsRefusedAt bytes at × IsNoSource bytes
 SourceDecides bytes (Some _) = ⊥
 
 -- the answer that the bytes within the limit decide
@@ -90,15 +87,15 @@ abbrev pub Decides : Command → List ℕ → Option Fault → Type 0
 Decides command bytes (Some (TooLong limit)) = (limit ≡ limit_of command) × (limit < length bytes)
 Decides command bytes answer = (length bytes ≤ limit_of command) × TextDecides command bytes answer
 
--- A source, given where the input tells its bytes, was compiled at this order to this text: one program
--- spells the bytes, and the text is that of a code and a certificate which are the program's. The code
--- is correct for the program and private, the rule accepts it with the certificate, and the bytes of the
+-- A source, given where the input tells its bytes, was compiled at this order to this text: the bytes
+-- spell one tree, which has the first form as this program, and the text is that of a code and a
+-- certificate which are the program's. The code is correct for the program and private, the rule accepts it with the certificate, and the bytes of the
 -- text decide that `check` has no fault.
 pub record Compiles (order : ℕ) (given : Option (List ℕ)) (written : List ℕ) : Type 0 where
   pub program : Program
   pub code : Listing
   pub cert : Claimed
-  pub source : IfSome given (SpelledBy program)
+  pub source : IfSome given (λ bytes. IsSourceOf bytes program)
   pub compiled : IsCompiled program order code cert
   pub correct : Correct program order code
   pub private : Private code

@@ -4,8 +4,6 @@ use Rattle.mk_bundle.specs.declared.read.BundleRefusal.{BundleRefusal}
 use Rattle.mk_bundle.specs.declared.read.BundleRefusal.TheVariants as bundle
 use Rattle.mk_top.specs.declared.status.Status.{Status}
 use Rattle.mk_top.specs.declared.status.Status.TheVariants as status
-use Rattle.mk_top.specs.declared.first.SourceRefusal.{SourceRefusal}
-use Rattle.mk_top.specs.declared.first.SourceRefusal.TheVariants as refusal
 use Rattle.mk_top.specs.declared.fault.Fault.{Fault}
 use Rattle.mk_top.specs.declared.fault.Fault.TheVariants as fault
 
@@ -23,11 +21,6 @@ status_number status.Memory = 8
 status_number status.Tapes = 9
 status_number status.TooLong = 10
 
--- the fault of a refused source
-abbrev pub fault_of_source : SourceRefusal → Fault
-fault_of_source refusal.NotYet = fault.NotYet
-fault_of_source refusal.Memory = fault.Memory
-
 -- the fault of a refused bundle text
 abbrev pub fault_of_bundle : BundleRefusal → Fault
 fault_of_bundle (bundle.Form line) = fault.Bundle line
@@ -37,6 +30,7 @@ fault_of_bundle bundle.Memory = fault.Memory
 abbrev pub status_of : Fault → Status
 status_of fault.Words = status.Words
 status_of fault.NotYet = status.Source
+status_of (fault.Syntax at) = status.Source
 status_of fault.ReadFault = status.ReadFault
 status_of fault.WriteFault = status.WriteFault
 status_of fault.Memory = status.Memory
@@ -50,6 +44,7 @@ status_of (fault.Output index) = status.Refused
 abbrev pub fault_line : Fault → List ℕ
 fault_line fault.Words = codes "21 words\n"
 fault_line fault.NotYet = codes "30 not yet 1:1\n"
+fault_line (fault.Syntax at) = codes "31 syntax " ++ decimal at.line ++ codes ":" ++ decimal at.column ++ 10 ∷ []
 fault_line fault.ReadFault = codes "6 read fault\n"
 fault_line fault.WriteFault = codes "7 write fault\n"
 fault_line fault.Memory = codes "8 memory\n"

@@ -1,10 +1,42 @@
--- Reading from the front of a text on, as lists.
-use Rattle.std.specs.Prelude.{◌≡◌, ℕ, zero, suc, ◌+◌, Bool, false, ◌&&◌, List, [], ◌∷◌, ◌++◌, length, take, drop, take_while, Option, Some, None, Result, Ok, Err, nat_lt, bytes_eq, codes, if◌then◌else◌}
-use Rattle.std.specs.Option.{option_map_or}
+-- Reading a program of the first form from a tree, as lists.
+use Rattle.std.specs.Prelude.{◌≡◌, ℕ, Bool, true, false, List, [], ◌∷◌, Option, Some, None, Result, Ok, Err, bytes_eq, ◌&&◌, if◌then◌else◌}
+use Rattle.mk_base.specs.declared.Place.{Place}
+use Rattle.mk_field.specs.declared.field.FieldId.{FieldId}
+use Rattle.mk_field.specs.declared.field.FieldId.TheVariants.{Gf2, Gf256}
+use Rattle.mk_ast.specs.declared.tree.Program.{Program as Tree}
+use Rattle.mk_ast.specs.declared.tree.Decl.{Decl}
+use Rattle.mk_ast.specs.declared.tree.What.{What}
+use Rattle.mk_ast.specs.declared.tree.What.TheVariants.{Var}
+use Rattle.mk_ast.specs.declared.tree.Class.TheVariants.{Secret, Output}
+use Rattle.mk_ast.specs.declared.tree.Stmt.{Stmt}
+use Rattle.mk_ast.specs.declared.tree.Stmt.TheVariants.{Set}
+use Rattle.mk_ast.specs.declared.tree.Ref.{Ref}
+use Rattle.mk_ast.specs.declared.tree.Expr.{Expr}
+use Rattle.mk_ast.specs.declared.tree.Expr.TheVariants.{Read}
+use Rattle.mk_ast.specs.declared.tree.Expr.TheOpen.{Expr-F, Sum}
+use Rattle.mk_ast.specs.declared.tree.Expr.TheViews.{out-Expr}
+use Rattle.mk_ast.specs.declared.refusal.SourceRefusal.{SourceRefusal}
+use Rattle.mk_ast.specs.declared.refusal.SourceRefusal.TheVariants as refusal
+use Rattle.mk_ast.specs.Spells.{IsRefusedAt}
 use Rattle.mk_top.specs.declared.first.Program.{Program}
-use Rattle.mk_top.specs.declared.first.SourceRefusal.{SourceRefusal}
-use Rattle.mk_top.specs.declared.first.SourceRefusal.TheVariants as refusals
-use Rattle.mk_top.specs.First.{is_blank, begins_word, goes_on, is_symbol}
+use Rattle.mk_top.specs.First.{HasFirstForm, IsNoSource, IsOtherSource}
+
+-- the place that is told of a source that isn't compiled yet
+abbrev pub first_place : Place
+first_place = record { line = 1; column = 1 }
+
+-- why a tree is not read: it is of another form, or memory was wanted
+abbrev pub IsFormRefusal : Tree → SourceRefusal → Type 0
+IsFormRefusal tree (refusal.NotYet at) = (at ≡ first_place) × ((p : Program) → HasFirstForm tree p → ⊥)
+IsFormRefusal tree refusal.Memory = Unit {0}
+IsFormRefusal tree _ = ⊥
+
+-- why a text is not read: it spells no tree, or one of another form, or memory was wanted
+abbrev pub IsSourceRefusal : List ℕ → SourceRefusal → Type 0
+IsSourceRefusal text (refusal.NotYet at) = (at ≡ first_place) × IsOtherSource text
+IsSourceRefusal text (refusal.Syntax at) = IsRefusedAt text at × IsNoSource text
+IsSourceRefusal text refusal.Memory = Unit {0}
+IsSourceRefusal text _ = ⊥
 
 -- what was read is read on, and what was not read is not
 infixl 10 ◌>>=◌
@@ -17,93 +49,75 @@ abbrev pub Tells : {X Y : Type 0} → (X → Y) → Option X → Option Y → Ty
 Tells view (Some x) read = read ≡ Some (view x)
 Tells view None read = read ≡ None
 
--- a refusal says that nothing is read, unless memory ran out
+-- a refusal says that nothing is read, unless memory was wanted
 abbrev pub Fails : {Y : Type 0} → SourceRefusal → Option Y → Type 0
-Fails refusals.Memory read = Unit {0}
-Fails refusals.NotYet read = read ≡ None
+Fails (refusal.NotYet at) read = (at ≡ first_place) × (read ≡ None)
+Fails refusal.Memory read = Unit {0}
+Fails _ read = ⊥
 
--- what a function that may run out of memory returned is what reading gives
-abbrev pub Gives : {X Y : Type 0} → (X → Y) → Result X SourceRefusal → Option Y → Type 0
-Gives view (Ok x) read = read ≡ Some (view x)
-Gives view (Err e) read = Fails e read
+-- what a function that may want memory returned is what reading gives
+abbrev pub Gives : {X : Type 0} → Result X SourceRefusal → Option X → Type 0
+Gives (Ok x) read = read ≡ Some x
+Gives (Err e) read = Fails e read
 
--- the text behind the bytes at its front that pass
-abbrev pub past : (ℕ → Bool) → List ℕ → List ℕ
-past p text = drop (length (take_while p text)) text
+-- a secret, and an output, without a size
+unfoldable pub is_secret : What → Bool
+is_secret (Var Secret None) = true
+is_secret what = false
 
--- the length of a token that begins with this byte, before these
-abbrev pub length_from : ℕ → List ℕ → Option ℕ
-length_from b bs =
-    if is_symbol b then Some 1 else (
-    if begins_word b && nat_lt (length (take_while goes_on bs)) 64 then Some (length (take_while goes_on bs) + 1) else None)
+unfoldable pub is_output : What → Bool
+is_output (Var Output None) = true
+is_output what = false
 
--- how many bytes the token at the very front has
-unfoldable pub token_length : List ℕ → Option ℕ
-token_length [] = None
-token_length (b ∷ bs) = length_from b bs
+-- the names of the secrets that are declared first, and the declarations behind them
+unfoldable pub secrets_first : List Decl → List (List ℕ) × List Decl
+secrets_first [] = ([], [])
+secrets_first (d ∷ ds) = if is_secret d.what then (d.name ∷ (secrets_first ds).0, (secrets_first ds).1) else ([], d ∷ ds)
 
--- the first token, and the text behind it
-unfoldable pub next_of : List ℕ → Option (List ℕ × List ℕ)
-next_of text = do
-  n ← token_length (past is_blank text)
-  Some (take n (past is_blank text), drop n (past is_blank text))
+-- the name of the output, where that is all that is declared
+unfoldable pub output_alone : List Decl → Option (List ℕ)
+output_alone (d ∷ []) = if is_output d.what then Some d.name else None
+output_alone ds = None
 
--- the text behind this token
-unfoldable pub expected_of : List ℕ → List ℕ → Option (List ℕ)
-expected_of token text = do
-  found ← next_of text
-  if bytes_eq found.0 token then Some found.1 else None
+-- the name that is referred to, without an index
+abbrev pub name_referred : Ref → Option (List ℕ)
+name_referred r = elim r.index as (λ _. Option (List ℕ)) [ None ↦ Some r.name | (Some i) ↦ None ]
 
--- `field gf256 ;`
-unfoldable pub heading_of : List ℕ → Option (List ℕ)
-heading_of text = do
-  rest ← expected_of (codes "field") text
-  rest ← expected_of (codes "gf256") rest
-  expected_of (codes ";") rest
+-- the name that is read, without an index
+unfoldable pub name_read : Expr → Option (List ℕ)
+name_read (Read r) = name_referred r
+name_read e = None
 
--- `secret NAME ;`
-unfoldable pub declaration_of : List ℕ → Option (List ℕ × List ℕ)
-declaration_of text = do
-  rest ← expected_of (codes "secret") text
-  name ← next_of rest
-  rest ← expected_of (codes ";") name.1
-  Some (name.0, rest)
+-- the names that are read, where each of these is a name
+unfoldable pub names_read : List Expr → Option (List (List ℕ))
+names_read [] = Some []
+names_read (e ∷ es) = do
+  name ← name_read e
+  names ← names_read es
+  Some (name ∷ names)
 
--- `output NAME ; NAME =`
-unfoldable pub target_of : List ℕ → Option (List ℕ × List ℕ)
-target_of text = do
-  rest ← expected_of (codes "output") text
-  name ← next_of rest
-  rest ← expected_of (codes ";") name.1
-  rest ← expected_of name.0 rest
-  rest ← expected_of (codes "=") rest
-  Some (name.0, rest)
+-- the parts of a sum
+unfoldable pub parts_of_sum : Expr-F Expr → Option (List Expr)
+parts_of_sum (Sum parts) = Some parts
+parts_of_sum e = None
 
--- `+ NAME`
-unfoldable pub addition_of : List ℕ → Option (List ℕ × List ℕ)
-addition_of text = do
-  rest ← expected_of (codes "+") text
-  next_of rest
+-- the target and the parts, where one sum is all that is stated
+unfoldable pub sum_alone : List Stmt → Option (Ref × List Expr)
+sum_alone ((Set target value) ∷ []) = do
+  parts ← parts_of_sum (out-Expr value)
+  Some (target, parts)
+sum_alone body = None
 
--- `;` and blanks
-unfoldable pub ends : List ℕ → Bool
-ends text = option_map_or (λ rest. nat_lt (length (past is_blank rest)) 1) (expected_of (codes ";") text) false
+unfoldable pub is_bytes : FieldId → Bool
+is_bytes Gf256 = true
+is_bytes Gf2 = false
 
--- words that were read before, and what is read behind them
-abbrev pub with_front : List (List ℕ) → List (List ℕ) × List ℕ → List (List ℕ) × List ℕ
-with_front words read = (words ++ read.0, read.1)
-
--- the words of as many phrases as there are at the front, up to a number, and the text behind them
-unfoldable pub many : (List ℕ → Option (List ℕ × List ℕ)) → ℕ → List ℕ → List (List ℕ) × List ℕ
-many phrase zero text = ([], text)
-many phrase (suc n) text = option_map_or (λ x. with_front (x.0 ∷ []) (many phrase n x.1)) (phrase text) ([], text)
-
--- the program that the tokens say, in whatever names
-unfoldable pub tree_of : List ℕ → Option Program
-tree_of text = do
-  rest ← heading_of text
-  let secrets = many declaration_of 64 rest
-  output ← target_of secrets.1
-  first ← next_of output.1
-  let parts = with_front (first.0 ∷ []) (many addition_of 63 first.1)
-  if ends parts.1 then Some (record { secrets = secrets.0; output = output.0; parts = parts.0 }) else None
+-- the program that the tree says, in whatever names
+unfoldable pub program_of : Tree → Option Program
+program_of tree = do
+  let secrets = secrets_first tree.decls
+  output ← output_alone secrets.1
+  sum ← sum_alone tree.body
+  target ← name_referred sum.0
+  parts ← names_read sum.1
+  if is_bytes tree.field && bytes_eq target output then Some (record { secrets = secrets.0; output = output; parts = parts }) else None

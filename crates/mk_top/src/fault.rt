@@ -1,11 +1,10 @@
-ghost use Rattle.std.specs.Prelude.{◌≡◌, ◌≤◌, ◌++◌, ◌∷◌, [], length, decimal};
+ghost use Rattle.std.specs.Prelude.{◌≡◌, ◌≤◌, ◌++◌, ◌∷◌, [], length, decimal, codes};
 ghost use Rattle.mk_top.specs.Faults.{status_of, fault_line};
 
-use crate::first::SourceRefusal;
 use crate::status::Status;
 use arrayvec::ArrayString;
 use itoa::Buffer;
-use mk_base::Memory;
+use mk_base::{Memory, Place};
 use mk_bundle::BundleRefusal;
 
 /// Why a run ends without its text.
@@ -13,8 +12,10 @@ use mk_bundle::BundleRefusal;
 pub enum Fault {
     /// The words are no command.
     Words,
-    /// The source is not of a form that is compiled yet.
+    /// The source, or the bundle, is not of a form that is taken yet.
     NotYet,
+    /// No program goes on with what stands at this place of the source.
+    Syntax { at: Place },
     /// Reading failed.
     ReadFault,
     /// Writing failed.
@@ -47,20 +48,6 @@ impl From<Memory> for Fault {
     }
 }
 
-impl From<SourceRefusal> for Fault {
-    ghost use Rattle.mk_top.specs.Faults.{fault_of_source};
-    ghost use Rattle.std.specs.Prelude.{◌≡◌};
-
-    ghost from_gives = { λ refusal fault. fault ≡ fault_of_source refusal };
-
-    fn from(refusal: SourceRefusal) -> Fault {
-        match refusal {
-            SourceRefusal::NotYet => Fault::NotYet,
-            SourceRefusal::Memory => Fault::Memory,
-        }
-    }
-}
-
 impl From<BundleRefusal> for Fault {
     ghost use Rattle.std.specs.Prelude.{◌≡◌};
     ghost use Rattle.mk_top.specs.Faults.{fault_of_bundle};
@@ -82,7 +69,7 @@ impl Fault {
     {
         match self {
             Fault::Words => Status::Words,
-            Fault::NotYet => Status::Source,
+            Fault::NotYet | Fault::Syntax { at: _ } => Status::Source,
             Fault::ReadFault => Status::ReadFault,
             Fault::WriteFault => Status::WriteFault,
             Fault::Memory => Status::Memory,
@@ -101,6 +88,7 @@ impl Fault {
         match self {
             Fault::Words => fixed("21 words\n"),
             Fault::NotYet => fixed("30 not yet 1:1\n"),
+            Fault::Syntax { at } => placed("31 syntax ", at),
             Fault::ReadFault => fixed("6 read fault\n"),
             Fault::WriteFault => fixed("7 write fault\n"),
             Fault::Memory => fixed("8 memory\n"),
@@ -132,6 +120,22 @@ fn numbered(text: &str, number: u32) -> FaultLine
     let mut line = FaultLine::new();
     line.push_str(text);
     line.push_str(digits.format(number));
+    line.push_str("\n");
+    line
+}
+
+/// A line that ends in a place.
+fn placed(text: &str, at: Place) -> FaultLine
+    requires { length text.now ≤ 40 }
+    ensures { result.bytes ≡ text.now ++ decimal at.line ++ codes ":" ++ decimal at.column ++ 10 ∷ [] }
+{
+    let mut lines = Buffer::new();
+    let mut columns = Buffer::new();
+    let mut line = FaultLine::new();
+    line.push_str(text);
+    line.push_str(lines.format(at.line));
+    line.push_str(":");
+    line.push_str(columns.format(at.column));
     line.push_str("\n");
     line
 }

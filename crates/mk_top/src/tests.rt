@@ -2,6 +2,8 @@
 
 ghost use Rattle.std.specs.Prelude.{None};
 
+mod sources;
+
 use super::*;
 use crate::compile::compile;
 use crate::first::read_first;
@@ -23,8 +25,6 @@ const TWICE: &str = "field gf256;\nsecret a;\nsecret b;\noutput y;\ny = a + a + 
 
 const TWICE_BUNDLE: &str =
     "mask 1\nfield gf256\norder 2\nsecrets 2\npublics 0\nblock add s0 s0\nblock add b0 s1\nclaim b1\ncode\nadd 0 0\nadd 1 1\nadd 2 2\nadd 6 3\nadd 7 4\nadd 8 5\nout 9 10 11\nend\n";
-
-const PRODUCT: &str = "field gf2;\nsecret a;\nsecret b;\noutput y;\ny = a * b;\n";
 
 /// How a row's input and outputs behave: how many bytes one read gives and one write takes, and which
 /// calls of each fail.
@@ -105,16 +105,6 @@ fn sums_are_compiled(rt: HostRuntime) -> Result<(), Memory> {
     };
     assert!(rt; answers(alloc, &["compile", "1"], SUM.as_bytes(), &CALM, &sum)?);
     assert!(rt; answers(alloc, &["compile", "2"], TWICE.as_bytes(), &CALM, &twice)?);
-    assert!(rt;
-        answers(
-            alloc,
-            &["compile", "1"],
-            PRODUCT.as_bytes(),
-            &CALM,
-            &NOT_YET
-        )?
-    );
-    assert!(rt; answers(alloc, &["compile", "1"], b"", &CALM, &NOT_YET)?);
     Ok(())
 }
 
@@ -415,7 +405,7 @@ fn is_same_pair(left: &Bundle, right: &Bundle) -> bool {
 
 /// Whether the text of a source's code at an order is read back as the same pair, and accepted.
 fn goes_round(alloc: Global, source: &str, order: u8) -> Result<bool, Fail> {
-    if order == 0 || order > 8 {
+    if order == 0 || order > 8 || source.len() > 1_048_576 {
         return Ok(false);
     }
     let program = read_first(alloc, source.as_bytes())
