@@ -7,4 +7,4 @@ use Rattle.mk_top.proofs.first.read_first.Goals as goal
 pub returns-clause-refused : goal.returns-clause-refused
 returns-clause-refused c =
     IfErr-weaker c.first_form.result (IsFormRefusal c.in_ok-tree.tree) (IsSourceRefusal c.args.text.now)
-    (λ e h. source_refused c.args.text.now c.in_ok-tree.tree e c.in_ok-tree.ensures h) c.first_form.ensures.refused
+    (λ e h. source_refused c.args.text.now c.in_ok-tree.tree e (c.in_ok-tree.ensures).answer h) c.first_form.ensures.refused
