@@ -1,3 +1,4 @@
+pub mod Examples
 pub mod Induction
 pub mod ExprReading
 pub mod IndexReading

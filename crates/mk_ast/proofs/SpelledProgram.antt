@@ -97,7 +97,6 @@ expr_grows =
           (all_more ExprGrows _ (λ e more. wrapped_more (is_sum e || is_product e) (IsRegularExpr e) more) parts all) brackets layer.1,
     ))
 
--- the value of an element is a byte
 -- the value of a digit is below 16
 digit_is_small : (c v : ℕ) → hex_value c ≡ Some v → v < 16
 digit_is_small c v = by (nat_lt c 48) (nat_lt c 58) (nat_lt c 65) (nat_lt c 71) (nat_lt c 97) (nat_lt c 103) refl refl refl refl refl refl
@@ -112,6 +111,7 @@ digit_is_small c v = by (nat_lt c 48) (nat_lt c 58) (nat_lt c 65) (nat_lt c 71) 
     by false false false false false true e1 e2 e3 e4 e5 e6 e = let is : c - 87 ≡ v = cc in omega (arith, ltb-true c 103 e6)
     by false false false false false false e1 e2 e3 e4 e5 e6 e = absurd cc
 
+-- the value of an element is a byte
 element_is_byte : (v : ℕ) (text : List ℕ) → IsElement v text → v < 256
 element_is_byte v text x =
     let high = digit_is_small x.0 x.2 x.5 in

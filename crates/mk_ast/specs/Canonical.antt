@@ -1,6 +1,6 @@
 -- The canonical text of a program, by cases over its tree: each declaration and statement on a line of
--- its own, parentheses only where the grammar wants them. The language is this project's own;
--- docs/LANGUAGE.md has its grammar.
+-- its own, parentheses exactly round a sum in a sum, a product or a chain, a product in a product and a
+-- chain in a chain. The language is this project's own; docs/LANGUAGE.md has its grammar.
 use Rattle.std.specs.Prelude.{ℕ, zero, suc, ◌+◌, ◌/◌, ◌%◌, Bool, true, false, ◌||◌, List, [], ◌∷◌, ◌++◌, Option, Some, None, map, flat_map, nat_lt, if◌then◌else◌, codes, decimal}
 use Rattle.mk_field.specs.declared.field.FieldId.{FieldId}
 use Rattle.mk_field.specs.declared.field.FieldId.TheVariants.{Gf2, Gf256}

@@ -3,11 +3,9 @@
 -- place.
 use Rattle.std.specs.Prelude.{◌≡◌, ◌≢◌, ℕ, zero, suc, List, [], ◌∷◌, codes}
 use Rattle.mk_base.specs.declared.Place.{Place}
-use Rattle.mk_field.specs.declared.field.FieldId.{FieldId}
 use Rattle.mk_field.specs.declared.field.FieldId.TheVariants.{Gf2, Gf256}
 use Rattle.mk_ast.specs.declared.tree.Program.{Program}
 use Rattle.mk_ast.specs.declared.tree.Decl.{Decl}
-use Rattle.mk_ast.specs.declared.tree.What.{What}
 use Rattle.mk_ast.specs.declared.tree.What.TheVariants as what
 use Rattle.mk_ast.specs.declared.tree.Class.{Class}
 use Rattle.mk_ast.specs.declared.tree.Class.TheVariants as class_
@@ -20,7 +18,7 @@ use Rattle.mk_ast.specs.declared.tree.Index.{Index}
 use Rattle.mk_ast.specs.declared.tree.Index.TheVariants as index
 use Rattle.mk_ast.specs.declared.tree.Link.{Link}
 use Rattle.mk_ast.specs.declared.tree.Link.TheVariants as link
-use Rattle.mk_ast.specs.Tokens.{Token, IsName, IsNumber, IsElement}
+use Rattle.mk_ast.specs.Tokens.{IsName, IsNumber, IsElement}
 use Rattle.mk_ast.specs.Phrases.{Phrase, nothing, one, made, ◌or◌, ◌and◌, after, until, optional, many, separated, several}
 
 -- a name, with its place
@@ -69,6 +67,7 @@ index_product inner = made (λ x. chained x.0 x.1) (index_factor inner and many 
 abbrev pub index_sum_with : Phrase Index → Phrase Index
 index_sum_with inner = made (several index.Sum) (separated (codes "+") (index_product inner))
 
+-- the same, by the number of brackets that may still be opened
 unfoldable pub index_sum : ℕ → Phrase Index
 index_sum zero = index_sum_with nothing
 index_sum (suc brackets) = index_sum_with (after (codes "(") (until (codes ")") (index_sum brackets)))
@@ -96,6 +95,7 @@ product brackets inner = made (several expr.Product) (separated (codes "*") (fac
 abbrev pub sum_with : ℕ → Phrase Expr → Phrase Expr
 sum_with brackets inner = made (several expr.Sum) (separated (codes "+") (product brackets inner))
 
+-- the same, by the number of brackets that may still be opened
 unfoldable pub sum : ℕ → Phrase Expr
 sum zero = sum_with zero nothing
 sum (suc brackets) = sum_with (suc brackets) (after (codes "(") (until (codes ")") (sum brackets)))
@@ -137,6 +137,7 @@ variable_declaration =
     made (λ x. record { name = x.1.0.0; at = x.1.0.1; what = what.Var x.0 x.1.1 })
     (class and until (codes ";") (name and optional (after (codes "[") (until (codes "]") size))))
 
+-- declaration = "map" name "=" element {"," element} ";" | class name ["[" size "]"] ";"
 abbrev pub declaration : Phrase Decl
 declaration = map_declaration or variable_declaration
 

@@ -77,6 +77,7 @@ IsRegularRef r brackets = IsName r.name × IsRegularSubscript r.index brackets
 
 -- One layer of an expression.
 module _ (X : Type 0) (tree : X → Expr) (IsRegular : X → ℕ → Type 0) where
+  -- parentheses stand round a sum in a sum, and round a sum or a product in a product
   abbrev pub IsRegularExprLayer : Expr-F X → ℕ → Type 0
   IsRegularExprLayer (Expr-F.Lit value at) brackets = value < 256
   IsRegularExprLayer (Expr-F.Read from) brackets = IsRegularRef from brackets

@@ -1,6 +1,6 @@
 -- The tokens of source texts: words, numbers, elements and symbols, with blanks and comments between
 -- them. The language is this project's own; docs/LANGUAGE.md has its grammar.
-use Rattle.std.specs.Prelude.{◌≡◌, ◌≢◌, ℕ, ◌+◌, ◌-◌, ◌*◌, ◌≤◌, ◌<◌, ◌==◌, Bool, false, not, ◌||◌, IsTrue, ◌⊎◌, List, [], ◌∷◌, ◌++◌, length, take, reverse, filter, Option, Some, None, nat_lt, if◌then◌else◌, Contains, codes, decimal, bytes_eq}
+use Rattle.std.specs.Prelude.{◌≡◌, ◌≢◌, ℕ, ◌+◌, ◌-◌, ◌*◌, ◌≤◌, ◌<◌, ◌==◌, Bool, false, not, ◌||◌, IsTrue, ◌⊎◌, List, [], ◌∷◌, ◌++◌, length, take, reverse, filter, Option, Some, None, nat_lt, if◌then◌else◌, Contains, codes, decimal}
 use Rattle.std.specs.List.{AllByRecursion, take_while}
 use Rattle.std.specs.Char.{is_ascii_alphabetic, is_ascii_alphanumeric}
 use Rattle.mk_base.specs.declared.Place.{Place}
@@ -84,6 +84,7 @@ IsElement value text =
     (c d high low : ℕ) × (text ≡ codes "0x" ++ c ∷ d ∷ []) × (hex_value c ≡ Some high) × (hex_value d ≡ Some low)
     × (value ≡ 16 * high + low)
 
+-- the symbols
 abbrev pub symbols : List (List ℕ)
 symbols =
     codes ";" ∷ codes "=" ∷ codes "," ∷ codes "+" ∷ codes "*" ∷ codes "%" ∷ codes "(" ∷ codes ")" ∷ codes "[" ∷ codes "]"

@@ -15,7 +15,8 @@ use std::alloc::Global;
 
 /// The canonical text of a program: each declaration and statement on a line of its own, the body of a
 /// loop two spaces further in, one space on each side of `=`, `+`, `*` and `%` and behind `,`, elements in
-/// lower-case digits, and parentheses only where the grammar wants them. The program is regular, as those
+/// lower-case digits. Parentheses stand exactly round a sum in a sum, a product or a chain, a product in a
+/// product and a chain in a chain, and an argument has its own alone. The program is regular, as those
 /// that texts spell are. `Memory` comes where memory is wanted and not found.
 pub fn to_text(alloc: Global, p: &Program) -> Result<Bytes, Memory>
     requires regular { IsRegular p.now }
