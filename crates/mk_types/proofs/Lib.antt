@@ -1,0 +1,4 @@
+pub mod Layers
+pub mod Least
+pub mod Lists
+mod Worked

@@ -1,0 +1,16 @@
+//! The typing of source programs: which program is well typed, and the first offence of one that is
+//! not.
+#![tactic(auto)]
+
+mod declarations;
+mod expressions;
+mod found;
+mod indexes;
+mod kinds;
+mod offence;
+mod scope;
+mod statements;
+mod typed;
+
+pub use offence::{Offence, OffenceKind};
+pub use typed::{Typed, check_types};
