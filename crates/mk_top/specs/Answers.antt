@@ -89,8 +89,8 @@ Decides command bytes answer = (length bytes ≤ limit_of command) × TextDecide
 
 -- A source, given where the input tells its bytes, was compiled at this order to this text: the bytes
 -- spell one tree, which has the first form as this program, and the text is that of a code and a
--- certificate which are the program's. The code is correct for the program and private, the rule accepts it with the certificate, and the bytes of the
--- text decide that `check` has no fault.
+-- certificate which are the program's. The code is correct for the program and private, the rule accepts
+-- it with the certificate, and the bytes of the text decide that `check` has no fault.
 pub record Compiles (order : ℕ) (given : Option (List ℕ)) (written : List ℕ) : Type 0 where
   pub program : Program
   pub code : Listing
