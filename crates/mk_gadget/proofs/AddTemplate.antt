@@ -160,6 +160,7 @@ observed-each entries (x ∷ xs) at k same =
     observed-each entries xs at (k + 1) (λ i below. let f : k + 1 + i ≡ k + suc i = omega arith in ap at f ∙ same (suc i) (omega (arith, below))) in
     cc
 
+-- what is observed at a list of places, place by place
 pub observed-by_index : (entries xs : List ℕ) (n : ℕ) → length xs ≡ n
     → observation xs entries ≡ map (λ i. slice_index entries (slice_index xs i)) (range_with_len 0 n)
 observed-by_index entries xs n count =
@@ -177,6 +178,7 @@ observed-from all (m ∷ more) a same =
     observed-from all more (a + 1) (λ i below. let f : a + 1 + i ≡ a + suc i = omega arith in ap (slice_index all) f ∙ same (suc i) (omega (arith, below))) in
     cc
 
+-- and so are the values behind all the entries
 pub observed-behind : (entries more : List ℕ) (n : ℕ) → length more ≡ n → observation (range_with_len (length entries) n) (entries ++ more) ≡ more
 observed-behind entries more n count =
     ap (λ (m : ℕ). observation (range_with_len (length entries) m) (entries ++ more)) (sym count)

@@ -1,10 +1,12 @@
--- Small gadgets over bits, and what an observer sees of them.
+-- Small gadgets over bits and over bytes, and what an observer sees of them.
 use Rattle.std.specs.Prelude.{◌≡◌, ℕ, List, [], ◌∷◌, map, replicate, refl}
-use Rattle.mk_field.specs.declared.field.FieldId.TheVariants.{Gf2}
+use Rattle.mk_field.specs.declared.field.FieldId.TheVariants.{Gf2, Gf256}
+use Rattle.mk_field.specs.Field.{sum_bits}
 use Rattle.mk_code.specs.declared.instr.Instr.TheVariants.{Rnd, Copy, Add, Mul}
 use Rattle.mk_code.specs.Trace.{randoms, run}
 use Rattle.mk_code.specs.Counting.{sum_below, total, one_if_equal}
-use Rattle.mk_gadget.specs.Gadget.{Gadget}
+use Rattle.mk_gadget.specs.Gadget.{Gadget, placed, placed_outs}
+use Rattle.mk_gadget.specs.Template.{public_addition, scaling}
 use Rattle.mk_gadget.specs.Steady.{block_ways}
 
 -- the product of x and y with two shares of each, after Ishai, Sahai and Wagner (CRYPTO 2003): a random
@@ -88,3 +90,22 @@ exchange-00 = refl
 pub exchange-01 : block_ways Gf2 [] exchange (0 ∷ 1 ∷ []) [] (0 ∷ []) (0 ∷ []) ≡ 0
 unfolding randoms run total one_if_equal
 exchange-01 = refl
+
+-- the shares 57 and 01 times the public 13 are fe (FIPS 197 section 4.2.1) and 13: a probe of the second
+-- instruction sees 13, and then share 0 of the out bank is fe
+pub scaling-57-13 : block_ways Gf256 [] (scaling 2) (0x57 ∷ 0x01 ∷ 0x13 ∷ []) (1 ∷ []) (0 ∷ []) (0x13 ∷ 0xfe ∷ []) ≡ 1
+unfolding randoms run total one_if_equal sum_bits
+scaling-57-13 = refl
+
+-- and not the other way round
+pub scaling-13-57 : block_ways Gf256 [] (scaling 2) (0x57 ∷ 0x01 ∷ 0x13 ∷ []) (1 ∷ []) (0 ∷ []) (0xfe ∷ 0x13 ∷ []) ≡ 0
+unfolding randoms run total one_if_equal sum_bits
+scaling-13-57 = refl
+
+-- a public value at place 2 is added to the shares at 5 and 6, by the instructions from 9 on
+pub public_addition-placed : placed (5 ∷ 6 ∷ 2 ∷ []) 9 (public_addition 2) ≡ Add 5 2 ∷ Copy 6 ∷ []
+public_addition-placed = refl
+
+-- which are its out bank
+pub public_addition-outs : placed_outs (5 ∷ 6 ∷ 2 ∷ []) 9 (public_addition 2) ≡ 9 ∷ 10 ∷ []
+public_addition-outs = refl

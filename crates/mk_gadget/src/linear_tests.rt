@@ -89,7 +89,8 @@ fn is_in_both<const N: usize>(
     Ok(bits && bytes)
 }
 
-/// A code in bytes of one secret, with the maps that leave an element as it is and that square it.
+/// A code of one secret, with the maps that leave an element as it is and that square it. Its field is
+/// that of bytes, since codes over bits have no maps.
 fn with_maps(alloc: Global, order: u8) -> Result<CodeBuilder<Gf256>, Memory>
     requires least { 1 ≤ order }
     requires most { order ≤ 8 }
@@ -149,17 +150,10 @@ fn sums(rt: HostRuntime) -> Result<(), Memory> {
         is_in_both::<3>(alloc, Linear::Sum, &three, Bank { regs: [7, 8, 9] })?,
         true
     );
-    assert_eq!(rt;
-        is_in_both::<9>(
-            alloc,
-            Linear::Sum,
-            &nine,
-            Bank {
-                regs: [19, 20, 21, 22, 23, 24, 25, 26, 27]
-            }
-        )?,
-        true
-    );
+    let out = Bank {
+        regs: [19, 20, 21, 22, 23, 24, 25, 26, 27],
+    };
+    assert_eq!(rt; is_in_both::<9>(alloc, Linear::Sum, &nine, out)?, true);
     Ok(())
 }
 
@@ -191,15 +185,11 @@ fn sums_with_a_public_value(rt: HostRuntime) -> Result<(), Memory> {
         is_in_both::<3>(alloc, Linear::PublicSum, &three, Bank { regs: [7, 8, 9] })?,
         true
     );
+    let out = Bank {
+        regs: [19, 20, 21, 22, 23, 24, 25, 26, 27],
+    };
     assert_eq!(rt;
-        is_in_both::<9>(
-            alloc,
-            Linear::PublicSum,
-            &nine,
-            Bank {
-                regs: [19, 20, 21, 22, 23, 24, 25, 26, 27]
-            }
-        )?,
+        is_in_both::<9>(alloc, Linear::PublicSum, &nine, out)?,
         true
     );
     Ok(())
@@ -232,24 +222,16 @@ fn products_with_a_public_value(rt: HostRuntime) -> Result<(), Memory> {
         is_in_both::<2>(alloc, Linear::PublicProduct, &two, Bank { regs: [5, 6] })?,
         true
     );
+    let out = Bank { regs: [7, 8, 9] };
     assert_eq!(rt;
-        is_in_both::<3>(
-            alloc,
-            Linear::PublicProduct,
-            &three,
-            Bank { regs: [7, 8, 9] }
-        )?,
+        is_in_both::<3>(alloc, Linear::PublicProduct, &three, out)?,
         true
     );
+    let out = Bank {
+        regs: [19, 20, 21, 22, 23, 24, 25, 26, 27],
+    };
     assert_eq!(rt;
-        is_in_both::<9>(
-            alloc,
-            Linear::PublicProduct,
-            &nine,
-            Bank {
-                regs: [19, 20, 21, 22, 23, 24, 25, 26, 27]
-            }
-        )?,
+        is_in_both::<9>(alloc, Linear::PublicProduct, &nine, out)?,
         true
     );
     Ok(())
@@ -283,17 +265,10 @@ fn squares(rt: HostRuntime) -> Result<(), Memory> {
         is_in_both::<3>(alloc, Linear::Square, &three, Bank { regs: [7, 8, 9] })?,
         true
     );
-    assert_eq!(rt;
-        is_in_both::<9>(
-            alloc,
-            Linear::Square,
-            &nine,
-            Bank {
-                regs: [19, 20, 21, 22, 23, 24, 25, 26, 27]
-            }
-        )?,
-        true
-    );
+    let out = Bank {
+        regs: [19, 20, 21, 22, 23, 24, 25, 26, 27],
+    };
+    assert_eq!(rt; is_in_both::<9>(alloc, Linear::Square, &nine, out)?, true);
     Ok(())
 }
 
@@ -325,17 +300,10 @@ fn lifted_values(rt: HostRuntime) -> Result<(), Memory> {
         is_in_both::<3>(alloc, Linear::Lift, &three, Bank { regs: [7, 8, 9] })?,
         true
     );
-    assert_eq!(rt;
-        is_in_both::<9>(
-            alloc,
-            Linear::Lift,
-            &nine,
-            Bank {
-                regs: [19, 20, 21, 22, 23, 24, 25, 26, 27]
-            }
-        )?,
-        true
-    );
+    let out = Bank {
+        regs: [19, 20, 21, 22, 23, 24, 25, 26, 27],
+    };
+    assert_eq!(rt; is_in_both::<9>(alloc, Linear::Lift, &nine, out)?, true);
     Ok(())
 }
 
@@ -367,15 +335,9 @@ fn images_under_the_second_map(rt: HostRuntime) -> Result<(), Memory> {
         is_image::<3>(alloc, &three, Bank { regs: [3, 4, 5] })?,
         true
     );
-    assert_eq!(rt;
-        is_image::<9>(
-            alloc,
-            &nine,
-            Bank {
-                regs: [9, 10, 11, 12, 13, 14, 15, 16, 17]
-            }
-        )?,
-        true
-    );
+    let out = Bank {
+        regs: [9, 10, 11, 12, 13, 14, 15, 16, 17],
+    };
+    assert_eq!(rt; is_image::<9>(alloc, &nine, out)?, true);
     Ok(())
 }

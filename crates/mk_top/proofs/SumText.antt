@@ -36,10 +36,12 @@ use Rattle.mk_top.specs.Chain.{additions, whole, last, sum_code, sum_cert}
 abbrev pub HasSums : Listing → Claimed → Type 0
 HasSums code cert = AreSums cert.blocks
 
+-- the blocks of a sum are sums
 sums-additions : (value : Operand) (k : ℕ) (cs : List ℕ) → AllByRecursion IsSum (additions value k cs)
 sums-additions value k [] = tt
 sums-additions value k (c ∷ rest) = (tt, sums-additions (Block k) (k + 1) rest)
 
+-- so the certificate has sums alone
 pub has-sums : (first : ℕ) (rest : List ℕ) → AreSums (sum_cert first rest).blocks
 has-sums first rest = All-from_recursion IsSum (additions (Secret first) 0 rest) (sums-additions (Secret first) 0 rest)
 
@@ -50,6 +52,7 @@ fits-additions value k [] fits below few = tt
 fits-additions value k (c ∷ rest) fits below few =
     ((fits, omega (arith, below.0)), fits-additions (Block k) (k + 1) rest (omega (arith, few)) below.1 (omega (arith, few)))
 
+-- and that of the whole
 fits-whole : (value : Operand) (k : ℕ) (cs : List ℕ) → OperandFits value → k + length cs ≤ 64 → OperandFits (whole value k cs)
 fits-whole value k [] fits few = fits
 fits-whole value k (c ∷ rest) fits few = fits-whole (Block k) (k + 1) rest (omega (arith, few)) (omega (arith, few))
@@ -62,6 +65,7 @@ IsShort code cert = length (text code cert) ≤ 268435456
 short-decimal : (n : ℕ) → n < 2 ^ 32 → length (decimal n) ≤ 10
 short-decimal n fits = length-decimal-le 10 n (omega arith) (omega arith) (omega arith)
 
+-- and an operand's word one letter more
 short-operand : (v : Operand) → OperandFits v → length (operand_word v) ≤ 11
 short-operand (Secret k) fits = omega (arith, short-decimal k fits)
 short-operand (Public k) fits = omega (arith, short-decimal k fits)
