@@ -1,12 +1,10 @@
 -- How readers of phrases are made by choices.
-use Rattle.std.proofs.Common.{◌≡◌, ℕ, zero, suc, ◌+◌, ◌≤◌, ◌<◌, Bool, true, false, ◌||◌, ◌⊎◌, inl, inr, List, [], ◌∷◌, ◌++◌, length, Option, Some, None, Result, Ok, Err, refl, sym, ap, subst, ◌∙◌, arith, cond, append_assoc, length-append}
-use Rattle.std.proofs.lemmas.List.{append-nil}
-use Rattle.mk_base.specs.declared.Place.{Place}
+use Rattle.std.proofs.Common.{◌≡◌, ℕ, Bool, true, false, inl, inr, List, [], ◌∷◌, ◌++◌, Ok, Err, refl, sym, ap, subst, ◌∙◌, cond}
 use Rattle.mk_ast.specs.Tokens.{Token}
-use Rattle.mk_ast.specs.Phrases.{Phrase, nothing, one, made, ◌or◌, ◌and◌, after, until, optional, many, separated}
-use Rattle.mk_parse.specs.Readers.{Reading, Reader, ◌>>=◌, starts, says, never, fails, skips, takes, makes, ◌next◌, expects, past, ended, chosen, perhaps, repeats, every, parted}
-use Rattle.mk_parse.proofs.ReaderLaws.{Stops, SameHead, Found, Stuck, Reads, BeginsBy, bind_ok, bind_err, read, refused, ok_same, err_same, cond_ok, cond_err, cond_is, says_is, is_says, same_head, same_head_nil, stops_same, starts_same, stuck_here, reads_made}
-use Rattle.mk_parse.proofs.Joined.{token_of, reads_after, reads_and}
+use Rattle.mk_ast.specs.Phrases.{Phrase, one, made, ◌or◌, ◌and◌, after, until}
+use Rattle.mk_parse.specs.Readers.{Reading, Reader, ◌>>=◌, starts, never, fails, skips, ◌next◌, expects, past, ended, chosen}
+use Rattle.mk_parse.proofs.ReaderLaws.{Stops, SameHead, Found, Stuck, Reads, BeginsBy, read, refused, ok_same, err_same, cond_ok, cond_err, cond_is, same_head, starts_same, stuck_here, reads_made}
+use Rattle.mk_parse.proofs.Joined.{reads_after, reads_and}
 
 pub stops_weaker : (more goes_on : Token → Bool) → ((t : Token) → more t ≡ false → goes_on t ≡ false) → (ts : List Token) → Stops more ts → Stops goes_on ts
 stops_weaker more goes_on h [] s = tt

@@ -1,24 +1,23 @@
 -- The readers of expressions read the phrases of expressions.
-use Rattle.std.proofs.Common.{◌≡◌, ◌≢◌, ℕ, zero, suc, ◌+◌, ◌≤◌, ◌<◌, Bool, true, false, ◌||◌, ◌⊎◌, inl, inr, List, [], ◌∷◌, ◌++◌, length, Option, Some, None, Ok, Err, refl, sym, ap, subst, ◌∙◌, arith}
-use Rattle.std.specs.Prelude.{codes, bytes_eq, ◌&&◌, not}
+use Rattle.std.proofs.Common.{◌≡◌, ℕ, zero, suc, ◌<◌, Bool, true, false, ◌||◌, inl, inr, List, [], ◌∷◌, ◌++◌, length, Option, Some, None, Ok, refl, sym, ap, subst, ◌∙◌, arith}
+use Rattle.std.specs.Prelude.{codes}
 use Rattle.std.proofs.lemmas.Bool.{false≢true, or_parts, or_cases}
 use Rattle.mk_base.specs.declared.Place.{Place}
 use Rattle.mk_ast.specs.declared.tree.Index.{Index}
-use Rattle.mk_ast.specs.declared.tree.Ref.{Ref}
 use Rattle.mk_ast.specs.declared.tree.Expr.{Expr}
 use Rattle.mk_ast.specs.declared.tree.Expr.TheVariants as expr
-use Rattle.mk_ast.specs.Tokens.{Token, begins_word, IsName, IsElement, reserved}
-use Rattle.mk_ast.specs.Phrases.{Phrase, nothing, one, made, ◌or◌, ◌and◌, after, until, optional, many, separated, several}
+use Rattle.mk_ast.specs.Tokens.{Token, begins_word, IsElement}
+use Rattle.mk_ast.specs.Phrases.{Phrase, nothing, made, ◌or◌, ◌and◌, after, until, optional, several}
 use Rattle.mk_ast.specs.Grammar.{name, element, bracketed, index_sum, reference, factor, product, sum_with, sum}
-use Rattle.mk_parse.specs.Readers.{Reader, starts, says, never, fails, skips, takes, makes, ◌next◌, past, ended, chosen, perhaps, every, parted}
-use Rattle.mk_parse.specs.Reading.{is_word, is_among, all_go_on, is_name, name_of, element_of, element_text, gives, guarded, index_sum_at, index_brackets, index_part, reference_of, reference_at, after_name, named, factor_by, product_by, sum_by, sum_at, sum_inner}
-use Rattle.mk_parse.proofs.ReaderLaws.{Stops, Reads, BeginsBy, reads_token, reads_made, says_is, is_says}
+use Rattle.mk_parse.specs.Readers.{Reader, starts, says, never, fails, takes, makes, past, ended, chosen}
+use Rattle.mk_parse.specs.Reading.{is_among, all_go_on, is_name, element_of, element_text, gives, index_part, reference_of, reference_at, after_name, named, factor_by, product_by, sum_by, sum_at, sum_inner}
+use Rattle.mk_parse.proofs.ReaderLaws.{Stops, Reads, BeginsBy, reads_token, reads_made, says_is}
 use Rattle.mk_parse.proofs.Joined.{token_of, reads_after, after_begins, reads_and}
 use Rattle.mk_parse.proofs.Choices.{empty, reads_empty, reads_same, reads_by, reads_before, reads_until, reads_or, reads_alone, reads_closed, stops_never, made_begins, and_begins, one_begins, apart_by}
 use Rattle.mk_parse.proofs.Loops.{shorter}
-use Rattle.mk_parse.proofs.Many.{reads_many, reads_separated, reads_optional}
-use Rattle.mk_parse.proofs.Terminals.{name_sound, name_complete, element_sound, element_complete, first_byte, name_begins, element_begins, gives_some, some_gives}
-use Rattle.mk_parse.proofs.IndexPhrases.{not_true, says_other, no_name, name_says, reads_name, name_is, reads_index_sum, square_stops, open_no_name}
+use Rattle.mk_parse.proofs.Many.{reads_separated, reads_optional}
+use Rattle.mk_parse.proofs.Terminals.{name_sound, element_sound, element_complete, first_byte, name_begins, element_begins, gives_some, some_gives}
+use Rattle.mk_parse.proofs.IndexPhrases.{not_true, says_other, name_says, reads_name, name_is, reads_index_sum, square_stops, open_no_name}
 
 -- ---- elements
 

@@ -1,5 +1,5 @@
 -- A text of at most 1,048,576 bytes declares at most 32,768 maps of eight images.
-use Rattle.std.proofs.Common.{◌≡◌, ℕ, ◌+◌, ◌*◌, ◌≤◌, List, [], ◌∷◌, ◌++◌, length, Option, Some, None, refl, sym, ap, subst, ◌∙◌, arith, inl, inr, append_assoc, length-append}
+use Rattle.std.proofs.Common.{◌≡◌, ℕ, ◌+◌, ◌*◌, ◌≤◌, List, [], ◌∷◌, ◌++◌, length, refl, ap, arith, inl, inr, length-append}
 use Rattle.std.specs.Prelude.{codes}
 use Rattle.std.specs.List.{AllByRecursion}
 use Rattle.mk_base.specs.declared.Place.{Place}
@@ -7,9 +7,9 @@ use Rattle.mk_ast.specs.declared.tree.Program.{Program}
 use Rattle.mk_ast.specs.declared.tree.Decl.{Decl}
 use Rattle.mk_ast.specs.declared.tree.What.{What}
 use Rattle.mk_ast.specs.declared.tree.What.TheVariants as what
-use Rattle.mk_ast.specs.Tokens.{Token, IsElement, Next, BeginsWith, AreTokens}
-use Rattle.mk_ast.specs.Phrases.{Phrase, made, after, until, many, separated}
-use Rattle.mk_ast.specs.Grammar.{element, declaration, map_declaration, variable_declaration}
+use Rattle.mk_ast.specs.Tokens.{Token, BeginsWith}
+use Rattle.mk_ast.specs.Phrases.{Phrase, made, after, many, separated}
+use Rattle.mk_ast.specs.Grammar.{element, declaration, map_declaration}
 use Rattle.mk_ast.specs.Spells.{Spells}
 use Rattle.mk_parse.specs.Parsed.{images_with, maps_of, FewMaps}
 

@@ -1,6 +1,6 @@
 -- The readers of indexes read the phrases of indexes.
-use Rattle.std.proofs.Common.{◌≡◌, ◌≢◌, ℕ, zero, suc, ◌+◌, ◌≤◌, ◌<◌, Bool, true, false, ◌||◌, ◌⊎◌, inl, inr, List, [], ◌∷◌, ◌++◌, length, Option, Some, None, Ok, Err, refl, sym, ap, subst, ◌∙◌, arith}
-use Rattle.std.specs.Prelude.{codes, decimal, bytes_eq, ◌&&◌, not}
+use Rattle.std.proofs.Common.{◌≡◌, ◌≢◌, ℕ, zero, suc, ◌<◌, Bool, true, false, ◌||◌, inl, inr, List, [], ◌∷◌, ◌++◌, length, Ok, refl, sym, ap, ◌∙◌, arith}
+use Rattle.std.specs.Prelude.{codes, bytes_eq, ◌&&◌, not}
 use Rattle.std.specs.Char.{is_ascii_digit}
 use Rattle.std.proofs.lemmas.Bool.{false≢true, or_parts}
 use Rattle.std.proofs.lemmas.Bool.Decides.{nat_tests}
@@ -11,11 +11,11 @@ use Rattle.mk_ast.specs.declared.tree.Index.TheVariants as index
 use Rattle.mk_ast.specs.declared.tree.Link.{Link}
 use Rattle.mk_ast.specs.declared.tree.Link.TheVariants as link
 use Rattle.mk_ast.specs.Tokens.{Token, begins_word, IsName, IsNumber, reserved}
-use Rattle.mk_ast.specs.Phrases.{Phrase, nothing, one, made, ◌or◌, ◌and◌, after, until, optional, many, separated, several}
+use Rattle.mk_ast.specs.Phrases.{Phrase, nothing, made, ◌or◌, after, until, several}
 use Rattle.mk_ast.specs.Grammar.{name, number, size, index_factor, index_link, chained, index_product, index_sum_with, index_sum}
-use Rattle.mk_parse.specs.Readers.{Reader, starts, says, never, fails, takes, makes, ◌next◌, past, ended, chosen, every, parted}
+use Rattle.mk_parse.specs.Readers.{Reader, starts, says, never, fails, takes, makes, past, ended, chosen}
 use Rattle.mk_parse.specs.Reading.{is_word, is_among, all_go_on, is_name, name_of, number_of, size_of, gives, index_factor_by, index_link_by, begins_link, index_product_by, index_sum_by, index_sum_at, index_inner}
-use Rattle.mk_parse.proofs.ReaderLaws.{Stops, Reads, BeginsBy, reads_token, reads_made, says_is, is_says}
+use Rattle.mk_parse.proofs.ReaderLaws.{Stops, Reads, BeginsBy, reads_token, reads_made, says_is}
 use Rattle.mk_parse.proofs.Joined.{token_of, reads_after, after_begins, reads_and}
 use Rattle.mk_parse.proofs.Choices.{reads_same, reads_until, reads_or, reads_alone, stops_never, made_begins, one_begins, apart_by}
 use Rattle.mk_parse.proofs.Many.{reads_many, reads_separated}

@@ -1,11 +1,9 @@
 -- How readers of phrases are made of several readers.
-use Rattle.std.proofs.Common.{◌≡◌, ℕ, zero, suc, ◌+◌, ◌≤◌, ◌<◌, Bool, true, false, ◌||◌, ◌⊎◌, inl, inr, List, [], ◌∷◌, ◌++◌, length, Option, Some, None, Result, Ok, Err, refl, sym, ap, subst, ◌∙◌, arith, cond, append_assoc, length-append}
-use Rattle.std.proofs.lemmas.List.{append-nil}
-use Rattle.mk_base.specs.declared.Place.{Place}
+use Rattle.std.proofs.Common.{◌≡◌, ℕ, Bool, true, false, inl, inr, List, [], ◌∷◌, ◌++◌, Ok, Err, refl, sym, ap, subst, ◌∙◌, cond, append_assoc}
 use Rattle.mk_ast.specs.Tokens.{Token}
-use Rattle.mk_ast.specs.Phrases.{Phrase, nothing, one, made, ◌or◌, ◌and◌, after, until, optional, many, separated}
-use Rattle.mk_parse.specs.Readers.{Reading, Reader, ◌>>=◌, starts, says, never, fails, takes, makes, ◌next◌, past, ended, chosen, perhaps, repeats, every, parted}
-use Rattle.mk_parse.proofs.ReaderLaws.{Stops, SameHead, Found, Stuck, Reads, BeginsBy, bind_ok, bind_err, read, refused, ok_same, err_same, cond_ok, cond_err, cond_is, says_is, is_says, same_head, same_head_nil, stops_same, starts_same, stuck_here, reads_made}
+use Rattle.mk_ast.specs.Phrases.{Phrase, ◌and◌, after}
+use Rattle.mk_parse.specs.Readers.{Reading, Reader, ◌>>=◌, says, ◌next◌, past}
+use Rattle.mk_parse.proofs.ReaderLaws.{Stops, SameHead, Found, Stuck, Reads, BeginsBy, bind_ok, bind_err, read, ok_same, err_same, cond_ok, cond_err, says_is, is_says, same_head, stuck_here}
 
 -- a token that is this word
 abbrev pub token_of : List ℕ → Token

@@ -168,7 +168,7 @@ no_more text left t x last next =
     by (b ∷ bs) some begins last = last_gap_alone next.gap b (bs ++ x) next.is_gap begins last
 
 -- a text that ends with a last gap ends where no gap begins
-end_here : (gap here : List ℕ) → IsGap gap ⊎ (IsLastGap gap × (here ≡ [])) → NoGapBegins here → IsLastGap (gap ++ here) → here ≡ []
+pub end_here : (gap here : List ℕ) → IsGap gap ⊎ (IsLastGap gap × (here ≡ [])) → NoGapBegins here → IsLastGap (gap ++ here) → here ≡ []
 end_here gap [] h begins last = refl
 end_here gap (b ∷ bs) (inl is_gap) begins last = absurd (last_gap_alone gap b bs is_gap begins last)
 end_here gap (b ∷ bs) (inr h) begins last = h.1

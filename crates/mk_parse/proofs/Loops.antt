@@ -1,14 +1,14 @@
 -- The loops of the parser: what is still to be read, behind what was read.
-use Rattle.std.proofs.Common.{◌≡◌, ℕ, zero, suc, ◌+◌, ◌≤◌, ◌<◌, Bool, true, false, ◌⊎◌, inl, inr, List, [], ◌∷◌, ◌++◌, length, Result, Ok, Err, refl, sym, ap, subst, ◌∙◌, arith, cond, append_assoc, length-append}
+use Rattle.std.proofs.Common.{◌≡◌, ℕ, zero, suc, ◌≤◌, ◌<◌, Bool, true, false, List, [], ◌∷◌, ◌++◌, length, Result, Ok, Err, refl, sym, ap, subst, ◌∙◌, arith, cond, append_assoc, length-append}
 use Rattle.std.specs.Result.{IsErrAnd}
 use Rattle.std.proofs.lemmas.List.{append-nil}
 use Rattle.mk_ast.specs.Tokens.{Token}
 use Rattle.mk_ast.specs.Phrases.{Phrase, several}
-use Rattle.mk_parse.specs.Readers.{Reading, Reader, ◌>>=◌, starts, says, takes, makes, ◌next◌, expects, past, ended, chosen, every, repeats, parted}
+use Rattle.mk_parse.specs.Readers.{Reading, Reader, ◌>>=◌, starts, says, makes, past, chosen, every, repeats, parted}
 use Rattle.mk_parse.specs.declared.cursor.Stop.{Stop}
 use Rattle.mk_parse.specs.declared.cursor.Stop.TheVariants.{Here, Memory}
 use Rattle.mk_parse.specs.Answers.{Answers}
-use Rattle.mk_parse.proofs.ReaderLaws.{Reads, BeginsBy, read, refused, bind_ok, ok_same}
+use Rattle.mk_parse.proofs.ReaderLaws.{Reads, BeginsBy, read, bind_ok, ok_same}
 
 -- what a reader leaves is no longer than what it had
 pub no_longer : {A : Type 0} {reader : Reader A} {phrase : Phrase A} {goes_on : Token → Bool} → Reads reader phrase goes_on

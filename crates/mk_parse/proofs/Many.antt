@@ -1,12 +1,12 @@
 -- How readers read a phrase any number of times, and whole lists of tokens.
-use Rattle.std.proofs.Common.{◌≡◌, ℕ, zero, suc, ◌+◌, ◌≤◌, ◌<◌, Bool, true, false, ◌||◌, ◌⊎◌, inl, inr, List, [], ◌∷◌, ◌++◌, length, Option, Some, None, Result, Ok, Err, refl, sym, ap, subst, ◌∙◌, arith, cond, append_assoc, length-append}
+use Rattle.std.proofs.Common.{◌≡◌, ℕ, zero, suc, ◌≤◌, Bool, true, false, inl, inr, List, [], ◌∷◌, ◌++◌, length, Option, Some, None, Ok, Err, refl, sym, ap, subst, ◌∙◌, arith, cond, append_assoc, length-append}
 use Rattle.std.proofs.lemmas.List.{append-nil}
 use Rattle.mk_ast.specs.Tokens.{Token}
-use Rattle.mk_ast.specs.Phrases.{Phrase, nothing, one, made, ◌or◌, ◌and◌, after, until, optional, many, separated}
-use Rattle.mk_parse.specs.Readers.{Reading, Reader, ◌>>=◌, starts, says, never, fails, skips, takes, makes, ◌next◌, past, ended, chosen, perhaps, repeats, every, parted, finished, with_none_left}
-use Rattle.mk_parse.proofs.ReaderLaws.{Stops, SameHead, Found, Stuck, Reads, BeginsBy, bind_ok, bind_err, read, refused, ok_same, err_same, cond_ok, cond_err, cond_is, says_is, is_says, same_head, same_head_nil, stops_same, starts_same, stuck_here, reads_made}
-use Rattle.mk_parse.proofs.Joined.{token_of, reads_after, reads_and, after_begins}
-use Rattle.mk_parse.proofs.Choices.{stops_weaker, reads_same, reads_by, empty, reads_empty, reads_or}
+use Rattle.mk_ast.specs.Phrases.{Phrase, made, ◌or◌, after, optional, many, separated}
+use Rattle.mk_parse.specs.Readers.{Reading, Reader, ◌>>=◌, starts, says, fails, past, perhaps, repeats, every, parted, finished, with_none_left}
+use Rattle.mk_parse.proofs.ReaderLaws.{Stops, SameHead, Reads, BeginsBy, bind_ok, bind_err, read, refused, ok_same, cond_is, same_head, starts_same, reads_made}
+use Rattle.mk_parse.proofs.Joined.{reads_after, reads_and, after_begins}
+use Rattle.mk_parse.proofs.Choices.{stops_weaker, reads_same, empty, reads_empty, reads_or}
 
 -- the phrase again and again, while the first token passes the test
 module _ {A : Type 0} (test : Token → Bool) (more : Token → Bool)

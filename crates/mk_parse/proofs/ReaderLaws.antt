@@ -1,13 +1,10 @@
 -- What it means that a reader reads a phrase, and how readers of phrases are made of readers of
 -- smaller ones.
-use Rattle.std.proofs.Common.{◌≡◌, ℕ, zero, suc, ◌+◌, ◌≤◌, ◌<◌, Bool, true, false, ◌||◌, ◌⊎◌, List, [], ◌∷◌, ◌++◌, length, Option, Some, None, Result, Ok, Err, refl, sym, ap, subst, ◌∙◌, arith, cond, append_assoc, length-append, ⊎_elim, inl, inr}
-use Rattle.std.proofs.lemmas.List.{append-nil}
-use Rattle.std.specs.Prelude.{bytes_eq}
+use Rattle.std.proofs.Common.{◌≡◌, ℕ, Bool, true, false, ◌⊎◌, List, [], ◌∷◌, ◌++◌, Option, Some, None, Ok, Err, refl, sym, ap, subst, ◌∙◌, cond, inl, inr}
 use Rattle.std.proofs.lemmas.Slice.Eq.{bytes_eq-Decides}
-use Rattle.mk_base.specs.declared.Place.{Place}
 use Rattle.mk_ast.specs.Tokens.{Token}
-use Rattle.mk_ast.specs.Phrases.{Phrase, nothing, one, made, ◌or◌, ◌and◌, after, until, optional, many, separated}
-use Rattle.mk_parse.specs.Readers.{Reading, Reader, ◌>>=◌, starts, says, never, fails, given, takes, makes, ◌next◌, past, ended, chosen, perhaps, repeats, every, parted}
+use Rattle.mk_ast.specs.Phrases.{Phrase, one, made}
+use Rattle.mk_parse.specs.Readers.{Reading, Reader, ◌>>=◌, starts, says, never, given, takes, makes}
 
 -- no token of these goes on with the phrase
 abbrev pub Stops : (Token → Bool) → List Token → Type 0

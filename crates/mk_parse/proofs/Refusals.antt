@@ -1,23 +1,24 @@
 -- What the reading of all tokens says of the text: the one program that it spells, or the place where
 -- it is refused.
-use Rattle.std.proofs.Common.{◌≡◌, ℕ, ◌+◌, ◌≤◌, ◌<◌, Bool, true, false, ◌⊎◌, inl, inr, List, [], ◌∷◌, ◌++◌, length, map, Result, Ok, Err, refl, sym, ap, subst, ◌∙◌, arith, append_assoc, length-append}
+use Rattle.std.proofs.Common.{◌≡◌, ℕ, Bool, true, false, ◌⊎◌, inl, inr, List, [], ◌∷◌, ◌++◌, length, map, Result, Ok, Err, refl, sym, ap, subst, ◌∙◌, arith, append_assoc, length-append}
 use Rattle.std.proofs.lemmas.Bool.{false≢true}
 use Rattle.std.proofs.lemmas.List.{append-nil}
 use Rattle.mk_base.specs.declared.Place.{Place}
 use Rattle.mk_ast.specs.declared.tree.Program.{Program}
-use Rattle.mk_ast.specs.Tokens.{Token as Spelled, IsGap, IsLastGap, IsToken, BeginsWith, AreTokens, place_of}
+use Rattle.mk_ast.specs.Tokens.{Token as Spelled, IsGap, IsLastGap, IsToken, Next, BeginsWith, AreTokens, place_of}
 use Rattle.mk_ast.specs.Grammar.{program}
 use Rattle.mk_ast.specs.Spells.{Spells, CanGoOn, NoGapBegins, NothingFits, IsRefusedAt}
 use Rattle.mk_parse.specs.declared.token.Token.{Token}
-use Rattle.mk_parse.specs.Lexing.{seen, NoTokenBegins, IsLexed, AreAllTokens}
+use Rattle.mk_parse.specs.Lexing.{seen, NoTokenBegins, IsLexed}
 use Rattle.mk_parse.specs.Readers.{finished}
 use Rattle.mk_parse.specs.Reading.{program_by}
 use Rattle.mk_parse.specs.Answers.{place_at}
 use Rattle.mk_parse.specs.Parsed.{IsOnlyProgram}
-use Rattle.mk_parse.proofs.Lexed.{lexed_all, lexed_whole, stands_after, tokens_unique}
+use Rattle.mk_parse.proofs.Gaps.{gap_unique}
+use Rattle.mk_parse.proofs.Lexed.{lexed_all, lexed_whole, stands_after, tokens_unique, next_unique, no_more, end_here}
 use Rattle.mk_parse.proofs.Munching.{token_unique, token_begins}
-use Rattle.mk_parse.proofs.Many.{all_only, all_found, all_stuck, IsDead, AllStuck}
-use Rattle.mk_parse.proofs.StatementPhrases.{reads_program, more_program}
+use Rattle.mk_parse.proofs.Many.{all_only, all_found, all_stuck, IsDead}
+use Rattle.mk_parse.proofs.StatementPhrases.{reads_program}
 
 abbrev spells_so : Program → Result Program (List Spelled)
 spells_so p = Ok p
@@ -121,3 +122,64 @@ pub one_program : (p q : Program) (text : List ℕ) → Spells p text → Spells
 one_program p q text h k =
     let same = tokens_unique text k.0 h.0 k.1 h.1 in
     ok_program p q (sym (all_only reads_program k.0 p (subst (λ (ts : List Spelled). program ts p) same h.2)) ∙ all_only reads_program k.0 q k.2)
+
+-- ---- the place where a text is refused is one
+
+-- programs can go on with fewer tokens
+fewer_tokens : (tokens more : List Spelled) → CanGoOn (tokens ++ more) → CanGoOn tokens
+fewer_tokens tokens more h = (more ++ h.0, h.1, subst (λ (ts : List Spelled). program ts h.1) (append_assoc tokens more h.0) h.2)
+
+-- a token that stands there, and with which programs can go on, fits
+token_fits : (at : Place) (taken : List Spelled) (t : Spelled) (behind here : List ℕ) → here ≡ t.text ++ behind → IsToken t.text behind → t.at ≡ at
+    → CanGoOn (taken ++ t ∷ []) → NothingFits at taken here → ⊥
+token_fits at taken t behind [] is is_token same goes_on stuck =
+    omega (arith, ap length is, length-append t.text behind, (token_begins t.text behind is_token).0)
+token_fits at taken t behind (b ∷ bs) is is_token same goes_on stuck = stuck t behind is is_token same goes_on
+
+-- where nothing fits, the text has no further token with which programs can go on
+none_further : (text left : List ℕ) (at : Place) (taken : List Spelled) (gap here : List ℕ) (t : Spelled) (ts : List Spelled) (behind : List ℕ) → left ≡ gap ++ here
+    → IsGap gap ⊎ (IsLastGap gap × (here ≡ [])) → NoGapBegins here → at ≡ place_of text here → NothingFits at taken here
+    → Next text left t behind → CanGoOn (taken ++ t ∷ ts) → ⊥
+none_further text left at taken gap here t ts behind parts (inl is_gap) begins place stuck next goes_on =
+    let same = (gap_unique gap next.gap here (t.text ++ behind) is_gap next.is_gap (sym parts ∙ next.parts) begins (token_begins t.text behind next.is_token).1).1 in
+    let goes_so : CanGoOn (taken ++ t ∷ []) = fewer_tokens (taken ++ t ∷ []) ts (subst CanGoOn (sym (append_assoc taken (t ∷ []) ts)) goes_on) in
+    token_fits at taken t behind here same next.is_token (next.place ∙ ap (place_of text) (sym same) ∙ sym place) goes_so stuck
+none_further text left at taken gap here t ts behind parts (inr last) begins place stuck next goes_on =
+    let ends : left ≡ gap = parts ∙ ap (λ (rest : List ℕ). gap ++ rest) last.1 ∙ append-nil gap in
+    no_more text left t behind (subst IsLastGap (sym ends) last.0) next
+
+-- behind the same tokens one gap comes
+same_rest : (g h x y : List ℕ) → g ++ x ≡ h ++ y → IsGap g ⊎ (IsLastGap g × (x ≡ [])) → IsGap h ⊎ (IsLastGap h × (y ≡ []))
+    → NoGapBegins x → NoGapBegins y → x ≡ y
+same_rest g h x y e (inl p) (inl q) nx ny = (gap_unique g h x y p q e nx ny).1
+same_rest g h x y e p (inr q) nx ny =
+    let ends : g ++ x ≡ h = e ∙ ap (λ (rest : List ℕ). h ++ rest) q.1 ∙ append-nil h in
+    end_here g x p nx (subst IsLastGap (sym ends) q.0) ∙ sym q.1
+same_rest g h x y e (inr p) q nx ny =
+    let ends : h ++ y ≡ g = sym e ∙ ap (λ (rest : List ℕ). g ++ rest) p.1 ∙ append-nil g in
+    p.1 ∙ sym (end_here h y q ny (subst IsLastGap (sym ends) p.0))
+
+-- two lists of tokens at the front of a text, with which programs can go on and behind which nothing
+-- fits, end at one place
+one_rest : (text left : List ℕ) (a b : Place) (taken ts us : List Spelled) (g h x y : List ℕ) → BeginsWith text left ts (g ++ x) → BeginsWith text left us (h ++ y)
+    → IsGap g ⊎ (IsLastGap g × (x ≡ [])) → IsGap h ⊎ (IsLastGap h × (y ≡ [])) → NoGapBegins x → NoGapBegins y
+    → a ≡ place_of text x → b ≡ place_of text y → CanGoOn (taken ++ ts) → CanGoOn (taken ++ us)
+    → NothingFits a (taken ++ ts) x → NothingFits b (taken ++ us) y → x ≡ y
+one_rest text left a b taken [] [] g h x y p q gx gy nx ny at bt cx cy sx sy = same_rest g h x y (sym p ∙ q) gx gy nx ny
+one_rest text left a b taken [] (u ∷ us) g h x y p q gx gy nx ny at bt cx cy sx sy =
+    absurd (none_further text left a taken g x u us q.0 p gx nx at (subst (λ (ts : List Spelled). NothingFits a ts x) (append-nil taken) sx) q.1 cy)
+one_rest text left a b taken (t ∷ ts) [] g h x y p q gx gy nx ny at bt cx cy sx sy =
+    absurd (none_further text left b taken h y t ts p.0 q gy ny bt (subst (λ (us : List Spelled). NothingFits b us y) (append-nil taken) sy) p.1 cx)
+one_rest text left a b taken (t ∷ ts) (u ∷ us) g h x y p q gx gy nx ny at bt cx cy sx sy =
+    let same = next_unique text left t u p.0 q.0 p.1 q.1 in
+    let on : (vs : List Spelled) → taken ++ t ∷ vs ≡ (taken ++ t ∷ []) ++ vs = λ vs. sym (append_assoc taken (t ∷ []) vs) in
+    let over : taken ++ u ∷ us ≡ (taken ++ t ∷ []) ++ us = ap (λ (v : Spelled). taken ++ v ∷ us) (sym same.0) ∙ on us in
+    one_rest text p.0 a b (taken ++ t ∷ []) ts us g h x y p.2 (subst (λ (l : List ℕ). BeginsWith text l us (h ++ y)) (sym same.1) q.2) gx gy nx ny at bt
+    (subst CanGoOn (on ts) cx) (subst CanGoOn over cy)
+    (subst (λ (vs : List Spelled). NothingFits a vs x) (on ts) sx) (subst (λ (vs : List Spelled). NothingFits b vs y) over sy)
+
+-- a text is refused at one place at most
+pub one_place : (a b : Place) (text : List ℕ) → IsRefusedAt text a → IsRefusedAt text b → a ≡ b
+one_place a b text p q =
+    let same = one_rest text text a b [] p.tokens q.tokens p.gap q.gap p.here q.here p.before q.before p.is_gap q.is_gap p.begins q.begins p.place q.place p.goes_on q.goes_on p.stuck q.stuck in
+    p.place ∙ ap (place_of text) same ∙ sym q.place

@@ -1,7 +1,7 @@
 -- The readers of statements, declarations and programs read their phrases.
-use Rattle.std.proofs.Common.{◌≡◌, ◌≢◌, ℕ, zero, suc, ◌+◌, ◌≤◌, ◌<◌, Bool, true, false, ◌||◌, ◌⊎◌, inl, inr, List, [], ◌∷◌, ◌++◌, length, Option, Some, None, Ok, Err, refl, sym, ap, subst, ◌∙◌, arith, cond}
-use Rattle.std.specs.Prelude.{codes, bytes_eq, ◌&&◌, not}
-use Rattle.std.proofs.lemmas.Bool.{false≢true, or_parts, or_cases}
+use Rattle.std.proofs.Common.{◌≡◌, ℕ, zero, suc, ◌<◌, Bool, true, false, ◌||◌, ◌⊎◌, inl, inr, List, [], ◌∷◌, ◌++◌, length, Option, Some, None, Ok, refl, sym, ap, subst, ◌∙◌, cond}
+use Rattle.std.specs.Prelude.{codes, bytes_eq}
+use Rattle.std.proofs.lemmas.Bool.{or_parts, or_cases}
 use Rattle.mk_base.specs.declared.Place.{Place}
 use Rattle.mk_field.specs.declared.field.FieldId.{FieldId}
 use Rattle.mk_field.specs.declared.field.FieldId.TheVariants.{Gf2, Gf256}
@@ -14,18 +14,18 @@ use Rattle.mk_ast.specs.declared.tree.Stmt.{Stmt}
 use Rattle.mk_ast.specs.declared.tree.Stmt.TheVariants as stmt
 use Rattle.mk_ast.specs.declared.tree.Ref.{Ref}
 use Rattle.mk_ast.specs.declared.tree.Expr.{Expr}
-use Rattle.mk_ast.specs.Tokens.{Token, reserved}
-use Rattle.mk_ast.specs.Phrases.{Phrase, nothing, one, made, ◌or◌, ◌and◌, after, until, optional, many, separated}
-use Rattle.mk_ast.specs.Grammar.{name, number, size, element, meaning, reference, sum, assignment, heading, statement, class, map_declaration, variable_declaration, declaration, most_brackets, program}
-use Rattle.mk_parse.specs.Readers.{Reader, starts, says, never, fails, skips, takes, makes, ◌next◌, past, ended, chosen, perhaps, every, parted}
-use Rattle.mk_parse.specs.Reading.{is_word, is_among, all_go_on, is_name, name_of, number_of, size_of, element_of, sum_at, reference_at, assignment_at, heading_by, begins_statement, statement_at, loop_at, plain_class, local_class, class_by, image_by, map_by, size_part, variable_by, declaration_by, begins_declaration, field_of, program_by}
+use Rattle.mk_ast.specs.Tokens.{Token}
+use Rattle.mk_ast.specs.Phrases.{Phrase, one, made, ◌or◌, ◌and◌, after, until, optional, many, separated}
+use Rattle.mk_ast.specs.Grammar.{size, element, meaning, reference, sum, assignment, heading, statement, class, map_declaration, variable_declaration, declaration, most_brackets, program}
+use Rattle.mk_parse.specs.Readers.{starts, says, never, takes, makes, past, chosen, parted}
+use Rattle.mk_parse.specs.Reading.{is_among, all_go_on, is_name, element_of, assignment_at, heading_by, begins_statement, statement_at, loop_at, plain_class, local_class, class_by, image_by, map_by, size_part, variable_by, declaration_by, begins_declaration, field_of, program_by}
 use Rattle.mk_parse.proofs.ReaderLaws.{Stops, Reads, BeginsBy, reads_token, reads_made, says_is, is_says}
 use Rattle.mk_parse.proofs.Joined.{token_of, reads_after, after_begins, reads_and}
 use Rattle.mk_parse.proofs.Choices.{reads_same, reads_until, reads_or, reads_closed, stops_never, made_begins, and_begins, one_begins, apart_by}
 use Rattle.mk_parse.proofs.Loops.{shorter}
 use Rattle.mk_parse.proofs.Many.{reads_many, reads_separated, reads_optional}
 use Rattle.mk_parse.proofs.Terminals.{some_is}
-use Rattle.mk_parse.proofs.IndexPhrases.{not_true, says_other, no_name, name_says, reads_name, name_is, reads_number, reads_size}
+use Rattle.mk_parse.proofs.IndexPhrases.{says_other, no_name, name_says, reads_name, reads_number, reads_size}
 use Rattle.mk_parse.proofs.ExpressionPhrases.{reads_reference, reference_is, reads_sum, semicolon_stops, reads_element}
 
 -- ---- statements

@@ -1,5 +1,5 @@
 -- The tests of names, numbers, sizes and elements, and how their first bytes tell them apart.
-use Rattle.std.proofs.Common.{◌≡◌, ◌≢◌, ℕ, zero, suc, ◌+◌, ◌*◌, ◌≤◌, ◌<◌, Bool, true, false, ◌||◌, ◌⊎◌, inl, inr, List, [], ◌∷◌, ◌++◌, length, get_or, Option, Some, None, Ok, Err, nat_lt, refl, sym, ap, subst, ◌∙◌, arith, cond}
+use Rattle.std.proofs.Common.{◌≡◌, ◌≢◌, ℕ, zero, suc, ◌+◌, ◌*◌, ◌≤◌, ◌<◌, Bool, true, false, ◌||◌, List, [], ◌∷◌, ◌++◌, length, Option, Some, None, Ok, Err, nat_lt, refl, sym, ap, ◌∙◌, arith, cond}
 use Rattle.std.specs.Prelude.{codes, decimal, bytes_eq, Contains, IsTrue, ◌↔◌, MatchOption, ◌&&◌, not}
 use Rattle.std.specs.List.{AllByRecursion}
 use Rattle.std.specs.Char.{is_ascii_digit}
@@ -8,11 +8,11 @@ use Rattle.std.proofs.lemmas.Bool.{and_parts, ltb-true, lt-ltb, false≢true}
 use Rattle.std.proofs.lemmas.Slice.Eq.{bytes_eq-Decides}
 use Rattle.mk_base.specs.declared.Place.{Place}
 use Rattle.mk_ast.specs.Tokens.{Token, begins_word, goes_on, IsWord, IsName, reserved, IsNumber, IsElement, hex_value}
-use Rattle.mk_parse.specs.Readers.{says, starts, given, takes}
+use Rattle.mk_parse.specs.Readers.{starts, given, takes}
 use Rattle.mk_parse.proofs.ReaderLaws.{read, refused}
 use Rattle.mk_parse.specs.Reading.{all_go_on, is_word, is_among, is_name_text, is_name, where_true, name_of, last_below, number_text, number_of, positive, size_of, of_digits, element_text, with_place, element_of, gives}
 use Rattle.mk_parse.proofs.Joined.{token_of}
-use Rattle.mk_parse.proofs.Decoding.{number_parts, number_unique, element_unique}
+use Rattle.mk_parse.proofs.Decoding.{number_parts, number_unique}
 
 pub some_is : {A : Type 0} {a b : A} → Some a ≡ Some b → a ≡ b
 some_is e = cc

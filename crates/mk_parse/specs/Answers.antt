@@ -10,13 +10,16 @@ use Rattle.mk_parse.specs.declared.cursor.Stop.TheVariants.{Here, Memory}
 use Rattle.mk_parse.specs.Lexing.{seen}
 use Rattle.mk_parse.specs.Readers.{Reading}
 
+-- a token as numbers
 abbrev pub token_code : Coded Spelled
 token_code = code_by (List ℕ × (ℕ × ℕ)) (coded× (coded_list coded_ℕ) (coded× coded_ℕ coded_ℕ))
     (λ t. (t.text, (t.at.line, t.at.column))) (λ x. record { text = x.0; at = record { line = x.1.0; column = x.1.1 } }) (λ _. refl)
 
+-- the tokens of the text that tokens of the program are
 abbrev pub seen_tokens : List ℕ → List Token → List Spelled
 seen_tokens text tokens = map (seen text) tokens
 
+-- what a reader of the first tokens answers, with the tokens behind them
 abbrev pub Answers : {A : Type 0} → Result A Stop → List Spelled → Reading A → Type 0
 Answers (Ok a) new reading = reading ≡ Ok (a, new)
 Answers (Err Here) new reading = reading ≡ Err new

@@ -26,6 +26,7 @@ abbrev pub images_with : What → List (List ℕ) → List (List ℕ)
 images_with (what.Map images) others = images ∷ others
 images_with (what.Var class size) others = others
 
+-- the images of all maps, in order
 abbrev pub maps_of : List Decl → List (List ℕ)
 maps_of [] = []
 maps_of (d ∷ ds) = images_with d.what (maps_of ds)

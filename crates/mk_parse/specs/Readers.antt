@@ -1,11 +1,13 @@
 -- Readers of lists of tokens. A reader answers a value and the tokens behind those that it took, or
 -- the tokens from the first on that doesn't fit.
-use Rattle.std.specs.Prelude.{ℕ, zero, suc, Bool, true, false, ◌||◌, List, [], ◌∷◌, length, Option, Some, None, Result, Ok, Err, if◌then◌else◌, bytes_eq}
+use Rattle.std.specs.Prelude.{ℕ, zero, suc, Bool, false, List, [], ◌∷◌, length, Option, Some, None, Result, Ok, Err, if◌then◌else◌, bytes_eq}
 use Rattle.mk_ast.specs.Tokens.{Token}
 
+-- what a reader answers
 abbrev pub Reading : Type 0 → Type 0
 Reading A = Result (A × List Token) (List Token)
 
+-- a reader
 abbrev pub Reader : Type 0 → Type 0
 Reader A = List Token → Reading A
 
@@ -95,6 +97,7 @@ abbrev pub with_none_left : {A : Type 0} → A → List Token → Result A (List
 with_none_left a [] = Ok a
 with_none_left a (t ∷ ts) = Err (t ∷ ts)
 
+-- what was read, where it was all
 abbrev pub finished : {A : Type 0} → Reading A → Result A (List Token)
 finished (Ok x) = with_none_left x.0 x.1
 finished (Err bad) = Err bad

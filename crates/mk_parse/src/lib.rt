@@ -12,7 +12,7 @@ mod statements;
 mod token;
 mod words;
 
-pub use laws::spelling_law;
+pub use laws::{refusal_law, spelling_law};
 pub use lexer::tokens;
 pub use program::parse;
 pub use token::{Token, TokenKind, TokenList};

@@ -49,3 +49,73 @@ fn refuses_where_no_program_goes_on(rt: HostRuntime) {
     assert!(rt; is_refused(alloc, b"field gf2;\ny[1 % 0] = 0x00;", 2, 7));
     assert!(rt; is_refused(alloc, b"field gf2;\ny = 0x00;\nsecret a;", 3, 1));
 }
+
+#[test]
+fn parses_loops_and_lines(rt: HostRuntime) -> Result<(), SourceRefusal> {
+    let alloc = rt.alloc();
+    let lone = is_canonical(
+        alloc,
+        b"field gf2;for i in 0..3 { }",
+        b"field gf2;\nfor i in 0..3 {\n}\n",
+    )?;
+    assert!(rt; lone);
+    let followed = is_canonical(
+        alloc,
+        b"field gf2;for i in 0..3 { } y=a; y=a+b*c;# all",
+        b"field gf2;\nfor i in 0..3 {\n}\ny = a;\ny = a + b * c;\n",
+    )?;
+    assert!(rt; followed);
+    Ok(())
+}
+
+#[test]
+fn refuses_what_does_not_fit(rt: HostRuntime) {
+    let alloc = rt.alloc();
+    assert!(rt; is_refused(alloc, b"field gf2;\nx[0", 2, 4));
+    assert!(rt; is_refused(alloc, b"field gf2;map m = ;", 1, 19));
+    assert!(rt; is_refused(alloc, b"field gf2;secret in;", 1, 18));
+    assert!(rt; is_refused(alloc, b"field gf2;secret a[0];", 1, 20));
+    assert!(rt; is_refused(alloc, b"field gf2;for i in 0. .3 { }", 1, 21));
+}
+
+#[test]
+fn refuses_a_65th_open_bracket(rt: HostRuntime) {
+    let alloc = rt.alloc();
+    assert!(rt;
+        is_refused(
+            alloc,
+            b"field gf2;y=((((((((((((((((((((((((((((((((((((((((((((((((((((((((((((((((a",
+            1,
+            78
+        )
+    );
+    assert!(rt;
+        is_refused(
+            alloc,
+            b"field gf2;y=(((((((((((((((((((((((((((((((((((((((((((((((((((((((((((((((((a",
+            1,
+            77
+        )
+    );
+}
+
+#[test]
+fn counts_brackets_of_all_kinds(rt: HostRuntime) {
+    let alloc = rt.alloc();
+    assert!(rt;
+        is_refused(
+            alloc,
+            b"field gf2;for i in 0..1{y[((((((((((((((((((((((((((((((((((((((((((((((((((((((((((((((i",
+            1,
+            90
+        )
+    );
+    assert!(rt;
+        is_refused(
+            alloc,
+            b"field gf2;for i in 0..1{y[(((((((((((((((((((((((((((((((((((((((((((((((((((((((((((((((i",
+            1,
+            89
+        )
+    );
+}

@@ -1,7 +1,7 @@
-use Rattle.std.proofs.Common.{true, false, ◌∙◌, sym, ap}
+use Rattle.std.proofs.Common.{◌∙◌, sym, ap}
 use Rattle.std.specs.Prelude.{◌&&◌, not}
 use Rattle.mk_ast.specs.Tokens.{reserved}
-use Rattle.mk_parse.specs.Reading.{is_word, is_among}
+use Rattle.mk_parse.specs.Reading.{is_among}
 use Rattle.mk_parse.proofs.Terminals.{word_by, reserved_by}
 use Rattle.mk_parse.proofs.cursor.is_name.Goals as goal
 

@@ -1,4 +1,4 @@
-use Rattle.std.proofs.Common.{◌≡◌, List, map, Ok, Err, sym, ap, subst, ◌∙◌}
+use Rattle.std.proofs.Common.{List, map, Err, sym, ap, subst, ◌∙◌}
 use Rattle.mk_base.specs.declared.Place.{Place}
 use Rattle.mk_ast.specs.declared.tree.Program.{Program}
 use Rattle.mk_ast.specs.Tokens.{Token as Spelled}

@@ -1,4 +1,4 @@
-use Rattle.std.proofs.Common.{◌≡◌, Ok, sym, ◌∙◌, List, [], ◌∷◌, ◌++◌, subst, codes}
+use Rattle.std.proofs.Common.{sym, ◌∙◌, List, ◌∷◌, subst, codes}
 use Rattle.mk_ast.specs.declared.tree.Index.{Index}
 use Rattle.mk_ast.specs.declared.tree.Index.TheVariants as index
 use Rattle.mk_ast.specs.declared.tree.Link.{Link}

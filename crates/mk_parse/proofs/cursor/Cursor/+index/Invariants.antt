@@ -1,5 +1,4 @@
-use Rattle.std.proofs.Common.{◌∷◌, codes, ◌≡◌, ℕ, ◌+◌, ◌-◌, ◌*◌, ◌<◌, ◌≤◌, length}
-use Rattle.mk_ast.specs.declared.tree.Index.{Index}
+use Rattle.std.proofs.Common.{◌∷◌, codes, ◌+◌, ◌*◌, length}
 use Rattle.mk_parse.specs.Readers.{makes, every, past, says}
 use Rattle.mk_parse.specs.Reading.{index_inner, index_link_by, begins_link, index_product_by}
 use Rattle.mk_parse.proofs.Loops.{Going}

@@ -1,4 +1,4 @@
-use Rattle.std.proofs.Common.{◌≡◌, Ok, sym, ◌∙◌, List, subst, codes}
+use Rattle.std.proofs.Common.{sym, ◌∙◌, List, subst, codes}
 use Rattle.mk_ast.specs.declared.tree.Stmt.{Stmt}
 use Rattle.mk_parse.specs.Answers.{Answers}
 use Rattle.mk_parse.specs.Readers.{Reading, every, says}

@@ -1,4 +1,4 @@
-use Rattle.std.proofs.Common.{◌≡◌, ℕ, ◌+◌, ◌*◌, length}
+use Rattle.std.proofs.Common.{◌+◌, ◌*◌, length}
 use Rattle.mk_parse.specs.Readers.{every}
 use Rattle.mk_parse.specs.Reading.{begins_statement, statement_at}
 use Rattle.mk_parse.proofs.Loops.{Going}

@@ -1,8 +1,8 @@
-use Rattle.std.proofs.Common.{◌≡◌, Ok, sym, ◌∙◌, List, [], ◌∷◌, ◌++◌, subst, codes}
+use Rattle.std.proofs.Common.{sym, ◌∙◌, List, ◌∷◌, subst, codes}
 use Rattle.mk_ast.specs.declared.tree.Expr.{Expr}
 use Rattle.mk_ast.specs.declared.tree.Expr.TheVariants as expr
 use Rattle.mk_parse.specs.Readers.{makes, every, past, says}
-use Rattle.mk_parse.specs.Reading.{sum_inner, factor_by, product_by, sum_by, sum_at}
+use Rattle.mk_parse.specs.Reading.{sum_inner, factor_by, product_by, sum_at}
 use Rattle.mk_parse.proofs.Loops.{Going, passed, going_turn, going_end, going_stuck, several_stuck, several_one, several_later, several_more}
 use Rattle.mk_parse.proofs.ExpressionPhrases.{multiplied_shorter, added_shorter, sum_is}
 use Rattle.mk_parse.proofs.cursor.Cursor.+sum.Goals as goal

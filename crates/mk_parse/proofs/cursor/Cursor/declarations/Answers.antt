@@ -1,4 +1,4 @@
-use Rattle.std.proofs.Common.{◌≡◌, Ok, sym, ◌∙◌, List, subst}
+use Rattle.std.proofs.Common.{sym, ◌∙◌, List, subst}
 use Rattle.mk_ast.specs.declared.tree.Decl.{Decl}
 use Rattle.mk_parse.specs.Readers.{every}
 use Rattle.mk_parse.specs.Reading.{begins_declaration, declaration_by}

@@ -1,4 +1,4 @@
-use Rattle.std.proofs.Common.{◌≡◌, ℕ, Ok, sym, ◌∙◌, List, [], ◌∷◌, subst, codes}
+use Rattle.std.proofs.Common.{ℕ, sym, ◌∙◌, List, ◌∷◌, subst, codes}
 use Rattle.mk_parse.specs.Readers.{makes, every, past, says}
 use Rattle.mk_parse.specs.Reading.{image_by, images_by}
 use Rattle.mk_parse.proofs.Loops.{Going, passed, going_turn, going_end, going_stuck, parted_is}

@@ -1,4 +1,4 @@
-use Rattle.std.proofs.Common.{◌≡◌, ◌∷◌, codes, ℕ, length}
+use Rattle.std.proofs.Common.{◌∷◌, codes, length}
 use Rattle.mk_parse.specs.Readers.{makes, every, past, says}
 use Rattle.mk_parse.specs.Reading.{image_by}
 use Rattle.mk_parse.proofs.Loops.{Going}
