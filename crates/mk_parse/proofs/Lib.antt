@@ -12,5 +12,5 @@ pub mod Gaps
 pub mod Munching
 pub mod Placing
 pub mod Lexed
-mod Refusals
+pub mod Refusals
 mod Few

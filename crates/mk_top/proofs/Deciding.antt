@@ -15,7 +15,7 @@ use Rattle.mk_top.specs.declared.command.Command.TheVariants.{Compile, Check}
 use Rattle.mk_top.specs.declared.fault.Fault.{Fault}
 use Rattle.mk_top.specs.declared.fault.Fault.TheVariants.{NotYet, Syntax, TooLong, Bundle, Tile, Operand, Output}
 use Rattle.mk_top.specs.Words.{Asks}
-use Rattle.mk_top.proofs.Refused.{refused-one}
+use Rattle.mk_parse.proofs.Refusals.{one_place}
 use Rattle.mk_top.specs.Answers.{PairDecides, BundleDecides, SourceDecides, TextDecides, Decides, limit_of}
 
 -- the words ask for one command
@@ -82,7 +82,7 @@ source-one bytes (Some NotYet) (Some (Syntax at)) first second = absurd (second.
 source-one bytes (Some NotYet) (Some fault) first second = absurd second
 source-one bytes (Some (Syntax at)) None first second = absurd (first.1 second.0 second.1)
 source-one bytes (Some (Syntax at)) (Some NotYet) first second = absurd (first.1 second.tree second.spelled)
-source-one bytes (Some (Syntax at)) (Some (Syntax place)) first second = ap (λ (p : Place). Some (Syntax p)) (refused-one bytes at place first.0 second.0)
+source-one bytes (Some (Syntax at)) (Some (Syntax place)) first second = ap (λ (p : Place). Some (Syntax p)) (one_place at place bytes first.0 second.0)
 source-one bytes (Some (Syntax at)) (Some fault) first second = absurd second
 source-one bytes (Some fault) b first second = absurd first
 

@@ -11,6 +11,5 @@ pub mod Commands
 pub mod SumCases
 pub mod Given
 pub mod SumText
-pub mod Refused
 pub mod Deciding
 pub mod Ends
