@@ -1,3 +1,4 @@
+pub mod Known
 pub mod Layers
 pub mod Least
 pub mod Lists

@@ -11,7 +11,6 @@ use Rattle.mk_ast.specs.declared.tree.Class.TheVariants as class_
 use Rattle.mk_ast.specs.declared.tree.Stmt.{Stmt}
 use Rattle.mk_ast.specs.declared.tree.Stmt.TheVariants as stmt
 use Rattle.mk_ast.specs.declared.tree.Ref.{Ref}
-use Rattle.mk_ast.specs.declared.tree.Expr.{Expr}
 use Rattle.mk_ast.specs.declared.tree.Expr.TheVariants as expr
 use Rattle.mk_ast.specs.declared.tree.Index.{Index}
 use Rattle.mk_ast.specs.declared.tree.Index.TheVariants as index

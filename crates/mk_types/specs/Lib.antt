@@ -1,3 +1,4 @@
 pub mod Scope
 pub mod Offences
 pub mod First
+pub mod Known

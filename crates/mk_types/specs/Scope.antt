@@ -30,7 +30,7 @@ outside s = record { field = s.field; decls = s.decls; loops = take (length s.lo
 
 -- what a name is declared to be: what the first declaration of this name says
 abbrev pub declared : List Decl → List ℕ → Option What
-declared decls name = option_map (λ d. d.what) (find (λ d. bytes_eq d.name name) decls)
+declared decls name = option_map (λ d. d.what) (find (λ d. bytes_eq name d.name) decls)
 
 -- whether it is the name of a loop around
 abbrev pub is_loop : Scope → List ℕ → Bool

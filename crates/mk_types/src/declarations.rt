@@ -1,22 +1,25 @@
 //! The offences of declarations.
 
-ghost use Rattle.std.specs.Prelude.{◌≡◌, []};
+ghost use Rattle.std.specs.Prelude.{◌≡◌, ◌++◌, [], OnOk, IfOk};
+ghost use Rattle.mk_types.specs.declared.offence.OffenceKind.TheVariants as kind_;
 ghost use Rattle.mk_types.specs.First.{noted};
-ghost use Rattle.mk_types.specs.Offences.{decl_offences, decls_offences};
+ghost use Rattle.mk_types.specs.Offences.{when, is_no_map_of, decls_offences};
 
 use crate::found::Found;
 use crate::kinds::is_no_map_of;
+use crate::names::{Names, note_decl};
 use crate::offence::OffenceKind;
-use crate::scope::declared;
+use indexmap::IndexMap;
 use mk_ast::Decl;
+use mk_base::Memory;
 use mk_field::FieldId;
+use std::alloc::Global;
 
-/// Notes the offences of a declaration behind these ones.
+/// Notes the offences of a declaration, whose name may be taken.
 #[tactic(auto, using(crate::proofs::Lists::noted_append))]
-fn check_decl(field: FieldId, found: &mut Found, earlier: &[Decl], decl: &Decl)
-    ensures { found.new ≡ noted found.old (decl_offences field earlier.now decl.now) }
+fn check_decl(field: FieldId, found: &mut Found, is_taken: bool, decl: &Decl)
+    ensures { found.new ≡ noted found.old (when is_taken decl.now.at kind_.Twice ++ when (is_no_map_of field decl.now.what) decl.now.at kind_.MapForm) }
 {
-    let is_taken = declared(earlier, decl.name.as_slice()).is_some();
     found.note_if(is_taken, decl.at, OffenceKind::Twice);
     found.note_if(
         is_no_map_of(field, &decl.what),
@@ -25,12 +28,21 @@ fn check_decl(field: FieldId, found: &mut Found, earlier: &[Decl], decl: &Decl)
     );
 }
 
-/// Notes the offences of these declarations.
-#[tactic(auto, using(crate::proofs::Lists::decls_more))]
-pub(crate) fn check_decls(field: FieldId, found: &mut Found, decls: &[Decl])
-    ensures { found.new ≡ noted found.old (decls_offences field [] decls.now) }
+/// Notes the offences of these declarations, and answers their names.
+pub(crate) fn check_decls<'a>(
+    alloc: Global,
+    field: FieldId,
+    found: &mut Found,
+    decls: &'a [Decl],
+) -> Result<Names<'a>, Memory>
+    ensures names { IfOk result (λ names. names ≡ decls.now) }
+    ensures found { OnOk result (found.new ≡ noted found.old (decls_offences field [] decls.now)) }
 {
-    for (number, decl) in decls.iter().enumerate() {
-        check_decl(field, found, &decls[..number], decl);
+    let mut table = IndexMap::new(alloc);
+    for decl in decls {
+        let is_taken = table.contains_key(decl.name.as_slice());
+        check_decl(field, found, is_taken, decl);
+        note_decl(&mut table, decl)?;
     }
+    Ok(Names::new(decls, table))
 }

@@ -7,6 +7,7 @@ mod expressions;
 mod found;
 mod indexes;
 mod kinds;
+mod names;
 mod offence;
 mod scope;
 mod statements;

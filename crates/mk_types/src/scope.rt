@@ -5,19 +5,12 @@ ghost use Rattle.std.specs.List.{list_any};
 ghost use Rattle.std.specs.Option.{option_copied};
 ghost use Rattle.mk_types.specs.Scope.{inside, outside, declared, is_loop, is_unknown};
 
-use mk_ast::{Decl, What};
+use crate::names::Names;
+use mk_ast::What;
 use mk_base::Memory;
 use mk_field::FieldId;
 use std::alloc::Global;
 use std::marker::Model;
-
-/// What the first declaration of a name says.
-pub(crate) fn declared<'a>(decls: &'a [Decl], name: &[u8]) -> Option<&'a What>
-    ensures { option_copied result ≡ declared decls.now name.now }
-{
-    let decl = decls.iter().find(|decl| decl.name.as_slice() == name)?;
-    Some(&decl.what)
-}
 
 /// Whether a name is one of these.
 fn is_among(names: &[&[u8]], name: &[u8]) -> bool
@@ -30,7 +23,7 @@ fn is_among(names: &[&[u8]], name: &[u8]) -> bool
 #[derive(Drop)]
 pub(crate) struct Scope<'a> {
     field: FieldId,
-    decls: &'a [Decl],
+    names: Names<'a>,
     loops: Vec<&'a [u8]>,
 }
 
@@ -40,17 +33,17 @@ impl<'a> Model for Scope<'a> {
 
     ghost Value = { Scope };
 
-    ghost view = { λ s. record { field = s.field; decls = s.decls.now; loops = map (λ name. name.now) s.loops.items } };
+    ghost view = { λ s. record { field = s.field; decls = s.names; loops = map (λ name. name.now) s.loops.items } };
 }
 
 impl<'a> Scope<'a> {
     /// Within no loop.
-    pub(crate) fn new(alloc: Global, field: FieldId, decls: &'a [Decl]) -> Scope<'a>
-        ensures { result ≡ record { field = field; decls = decls.now; loops = [] } }
+    pub(crate) fn new(alloc: Global, field: FieldId, names: Names<'a>) -> Scope<'a>
+        ensures { result ≡ record { field = field; decls = names.entry; loops = [] } }
     {
         Scope {
             field,
-            decls,
+            names,
             loops: Vec::new(alloc),
         }
     }
@@ -66,7 +59,7 @@ impl<'a> Scope<'a> {
     pub(crate) fn declared(&self, name: &[u8]) -> Option<&'a What>
         ensures { option_copied result ≡ declared self.now.decls name.now }
     {
-        declared(self.decls, name)
+        self.names.declared(name)
     }
 
     /// Whether it is the name of a loop around.

@@ -70,8 +70,8 @@ fn first_offence(alloc: Global, p: &Program) -> Result<Option<Offence>, Memory>
     ensures { IfOk result (λ first. first ≡ noted None (offences p.now)) }
 {
     let mut found = Found::nothing();
-    let mut scope = Scope::new(alloc, p.field, p.decls.as_slice());
-    check_decls(p.field, &mut found, p.decls.as_slice());
+    let names = check_decls(alloc, p.field, &mut found, p.decls.as_slice())?;
+    let mut scope = Scope::new(alloc, p.field, names);
     check_stmts(&mut scope, &mut found, p.body.as_slice())?;
     Ok(found.first())
 }
