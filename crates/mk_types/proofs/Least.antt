@@ -4,7 +4,8 @@ use Rattle.std.proofs.lemmas.Bool.Decides.{Decides-or, Decides-and, Decides-ltb,
 use Rattle.std.specs.Bool.{Decides}
 use Rattle.std.specs.List.{AllByRecursion, Contains}
 use Rattle.mk_types.specs.declared.offence.Offence.{Offence}
-use Rattle.mk_types.specs.First.{number, is_before, IsFirst, noted}
+use Rattle.mk_types.specs.First.{number, is_before, IsFirst}
+use Rattle.mk_types.specs.Noted.{noted}
 
 -- three numbers before three, with the first ones that differ
 abbrev Before : ℕ → ℕ → ℕ → ℕ → ℕ → ℕ → Type 0

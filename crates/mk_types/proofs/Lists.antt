@@ -10,7 +10,7 @@ use Rattle.mk_ast.specs.declared.tree.Decl.{Decl}
 use Rattle.mk_field.specs.declared.field.FieldId.{FieldId}
 use Rattle.std.proofs.lemmas.List.{append-nil}
 use Rattle.std.proofs.Math.Seq.{take-append_seam}
-use Rattle.mk_types.specs.First.{earliest, noted}
+use Rattle.mk_types.specs.Noted.{earliest, noted}
 
 -- a test of what a function gives
 pub list_any_map : {A B : Type 0} (p : B → Bool) (f : A → B) (xs : List A) → list_any (λ x. p (f x)) xs ≡ list_any p (map f xs)

@@ -17,7 +17,7 @@ use Rattle.mk_ast.specs.declared.tree.Index.TheVariants as index
 use Rattle.mk_types.specs.declared.offence.Offence.{Offence}
 use Rattle.mk_types.specs.declared.offence.OffenceKind.{OffenceKind}
 use Rattle.mk_types.specs.declared.offence.OffenceKind.TheVariants as kind_
-use Rattle.mk_types.specs.First.{noted}
+use Rattle.mk_types.specs.Noted.{noted}
 use Rattle.mk_types.specs.Offences.{offences}
 use Rattle.mk_types.proofs.Layers.{stmt_layers, expr_layers, index_layers, shared_layers}
 

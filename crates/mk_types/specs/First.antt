@@ -1,6 +1,6 @@
 -- The first of several offences: the one of the least place, and of several at one place the one of the
 -- least number. Places go by the line, then by the column.
-use Rattle.std.specs.Prelude.{◌≡◌, ℕ, Bool, false, ◌&&◌, ◌||◌, List, Option, Some, None, nat_lt, nat_eq, Contains, fold, if◌then◌else◌}
+use Rattle.std.specs.Prelude.{◌≡◌, ℕ, Bool, false, ◌&&◌, ◌||◌, List, nat_lt, nat_eq, Contains}
 use Rattle.std.specs.List.{AllByRecursion}
 use Rattle.mk_base.specs.declared.Place.{Place}
 use Rattle.mk_ast.specs.declared.refusal.SourceRefusal.{SourceRefusal}
@@ -33,15 +33,6 @@ is_before x y = is_place_before x.at y.at || (is_same_place x.at y.at && nat_lt 
 pub record IsFirst (xs : List Offence) (x : Offence) : Type 0 where
   pub among : Contains xs x
   pub least : AllByRecursion (λ y. is_before y x ≡ false) xs
-
--- the first of what was found so far and one more
-abbrev pub earliest : Option Offence → Offence → Option Offence
-earliest None x = Some x
-earliest (Some y) x = Some (if is_before x y then x else y)
-
--- the first of what was found so far and these
-abbrev pub noted : Option Offence → List Offence → Option Offence
-noted = fold earliest
 
 -- the refusal that an offence is told by
 abbrev pub refusal : Offence → SourceRefusal

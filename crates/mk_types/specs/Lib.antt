@@ -2,3 +2,4 @@ pub mod Scope
 pub mod Offences
 pub mod First
 pub mod Known
+pub mod Noted

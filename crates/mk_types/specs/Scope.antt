@@ -1,6 +1,6 @@
 -- What the names in a statement stand for: the declarations of the program, and the loops around it.
 -- The rules are this project's own; docs/LANGUAGE.md has them in words.
-use Rattle.std.specs.Prelude.{take, length, ◌-◌, Bool, true, false, ◌&&◌, not, List, [], ◌∷◌, ◌++◌, Option, Some, None, is_none, ℕ, bytes_eq}
+use Rattle.std.specs.Prelude.{ℕ, ◌-◌, Bool, true, false, ◌&&◌, not, List, [], ◌∷◌, ◌++◌, length, take, find, flat_map, bytes_eq, Option, Some, None, is_none}
 use Rattle.std.specs.List.{list_any}
 use Rattle.std.specs.Option.{option_map}
 use Rattle.mk_field.specs.declared.field.FieldId.{FieldId}
@@ -12,7 +12,6 @@ use Rattle.mk_ast.specs.declared.tree.Class.TheVariants as class_
 use Rattle.mk_ast.specs.declared.tree.Expr.{Expr}
 use Rattle.mk_ast.specs.declared.tree.Expr.TheOpen.{Expr-F}
 use Rattle.mk_ast.specs.declared.tree.Expr.TheFolds.{fold-Expr}
-use Rattle.std.specs.Prelude.{flat_map, find}
 
 -- what a statement stands in: the field, the declarations, and the names of the loops around it
 pub record Scope : Type 0 where

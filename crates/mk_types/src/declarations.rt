@@ -2,7 +2,7 @@
 
 ghost use Rattle.std.specs.Prelude.{◌≡◌, ◌++◌, [], OnOk, IfOk};
 ghost use Rattle.mk_types.specs.declared.offence.OffenceKind.TheVariants as kind_;
-ghost use Rattle.mk_types.specs.First.{noted};
+ghost use Rattle.mk_types.specs.Noted.{noted};
 ghost use Rattle.mk_types.specs.Offences.{when, is_no_map_of, decls_offences};
 
 use crate::found::Found;

@@ -2,7 +2,7 @@
 
 ghost use Rattle.std.specs.Prelude.{◌≡◌, flat_map};
 ghost use Rattle.std.specs.List.{list_any};
-ghost use Rattle.mk_types.specs.First.{noted};
+ghost use Rattle.mk_types.specs.Noted.{noted};
 ghost use Rattle.mk_types.specs.Scope.{is_shared, is_variable, is_shared_class, declared};
 ghost use Rattle.mk_types.specs.Offences.{map_name_offences, is_no_bit, expr_offences};
 

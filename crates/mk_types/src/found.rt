@@ -1,7 +1,7 @@
 //! The first of the offences that were found.
 
 ghost use Rattle.std.specs.Prelude.{◌≡◌, None};
-ghost use Rattle.mk_types.specs.First.{earliest, noted};
+ghost use Rattle.mk_types.specs.Noted.{earliest, noted};
 ghost use Rattle.mk_types.specs.Offences.{when};
 
 use crate::offence::{Offence, OffenceKind};

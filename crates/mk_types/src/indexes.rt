@@ -1,7 +1,7 @@
 //! The offences of indexes and references.
 
 ghost use Rattle.std.specs.Prelude.{◌≡◌, flat_map};
-ghost use Rattle.mk_types.specs.First.{noted};
+ghost use Rattle.mk_types.specs.Noted.{noted};
 ghost use Rattle.mk_types.specs.Offences.{index_name_offences, index_offences, link_offences, reference_offences};
 
 use crate::found::Found;

@@ -1,7 +1,7 @@
 //! The offences of statements.
 
 ghost use Rattle.std.specs.Prelude.{◌≡◌, flat_map, OnOk};
-ghost use Rattle.mk_types.specs.First.{noted};
+ghost use Rattle.mk_types.specs.Noted.{noted};
 ghost use Rattle.mk_types.specs.Offences.{target_offences, assignment_offences, loop_name_offences, stmt_offences};
 
 use crate::expressions::{check_expr, is_shared};

@@ -4,7 +4,8 @@ ghost use Rattle.std.specs.Prelude.{◌≡◌, ◌⊎◌, None, IfOk, IfErr};
 ghost use Rattle.mk_ast.specs.Regular.{IsRegular};
 ghost use Rattle.mk_ast.specs.declared.refusal.SourceRefusal.TheVariants as refusal_;
 ghost use Rattle.mk_types.specs.declared.offence.Offence.{Offence};
-ghost use Rattle.mk_types.specs.First.{IsFirst, noted, refusal};
+ghost use Rattle.mk_types.specs.First.{IsFirst, refusal};
+ghost use Rattle.mk_types.specs.Noted.{noted};
 ghost use Rattle.mk_types.specs.Offences.{offences, IsWellTyped};
 
 use crate::declarations::check_decls;

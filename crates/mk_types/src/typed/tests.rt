@@ -170,6 +170,14 @@ fn refuses_values_of_other_kinds(rt: HostRuntime) {
 }
 
 #[test]
+fn refuses_maps_without_an_argument(rt: HostRuntime) {
+    let alloc = rt.alloc();
+    let text =
+        b"field gf256;\nmap m = 0x01, 0x02, 0x03, 0x04, 0x05, 0x06, 0x07, 0x08;\noutput y;\ny = m;";
+    assert!(rt; is_refused(alloc, text, SourceRefusal::Kind(at(4, 5))));
+}
+
+#[test]
 fn refuses_inputs_as_targets(rt: HostRuntime) {
     let alloc = rt.alloc();
     assert!(rt;

@@ -2,7 +2,7 @@
 use Rattle.std.proofs.Common.{◌≡◌, ◌++◌, ◌∷◌, [], is_some, take, sym, ap, subst, ◌∙◌}
 use Rattle.std.proofs.lemmas.List.{take_more}
 use Rattle.mk_types.specs.declared.offence.OffenceKind.TheVariants as kind_
-use Rattle.mk_types.specs.First.{noted}
+use Rattle.mk_types.specs.Noted.{noted}
 use Rattle.mk_types.specs.Known.{Knows}
 use Rattle.mk_types.specs.Scope.{declared}
 use Rattle.mk_types.specs.Offences.{when, is_no_map_of, decl_offences, decls_offences}

@@ -1,6 +1,6 @@
 -- What is noted of the declarations so far, and what the table knows.
 use Rattle.std.proofs.Common.{◌≡◌, take, []}
-use Rattle.mk_types.specs.First.{noted}
+use Rattle.mk_types.specs.Noted.{noted}
 use Rattle.mk_types.specs.Known.{Knows}
 use Rattle.mk_types.specs.Offences.{decls_offences}
 use Rattle.mk_types.proofs.declarations.check_decls.Given as goal

@@ -1,6 +1,6 @@
 -- What is noted of the expressions so far.
 use Rattle.std.proofs.Common.{◌≡◌, take, flat_map}
-use Rattle.mk_types.specs.First.{noted}
+use Rattle.mk_types.specs.Noted.{noted}
 use Rattle.mk_types.specs.Offences.{expr_offences}
 use Rattle.mk_types.proofs.expressions.+check.Given as goal
 

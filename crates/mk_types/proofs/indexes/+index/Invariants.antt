@@ -1,6 +1,6 @@
 -- What is noted of the parts so far.
 use Rattle.std.proofs.Common.{◌≡◌, take, flat_map}
-use Rattle.mk_types.specs.First.{noted}
+use Rattle.mk_types.specs.Noted.{noted}
 use Rattle.mk_types.specs.Offences.{index_offences, link_offences}
 use Rattle.mk_types.proofs.indexes.+index.Given as goal
 

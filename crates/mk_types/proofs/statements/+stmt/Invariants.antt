@@ -1,6 +1,6 @@
 -- What is noted of the statements so far.
 use Rattle.std.proofs.Common.{◌≡◌, take, flat_map}
-use Rattle.mk_types.specs.First.{noted}
+use Rattle.mk_types.specs.Noted.{noted}
 use Rattle.mk_types.specs.Offences.{stmt_offences}
 use Rattle.mk_types.proofs.statements.+stmt.Given as goal
 
