@@ -13,9 +13,19 @@ use Rattle.mk_bundle.specs.Pairs.{IsPair, IsBundleText, NamesFirst, TextsDiffer}
 use Rattle.mk_top.specs.declared.command.Command.{Command}
 use Rattle.mk_top.specs.declared.command.Command.TheVariants.{Compile, Check}
 use Rattle.mk_top.specs.declared.fault.Fault.{Fault}
-use Rattle.mk_top.specs.declared.fault.Fault.TheVariants.{NotYet, Syntax, TooLong, Bundle, Tile, Operand, Output}
+use Rattle.mk_top.specs.declared.fault.Fault.TheVariants.{NotYet, Syntax, Unknown, Twice, Kind, AssignInput, MapForm, TooLong, Bundle, Tile, Operand, Output}
 use Rattle.mk_top.specs.Words.{Asks}
-use Rattle.mk_parse.proofs.Refusals.{one_place}
+use Rattle.mk_parse.proofs.Refusals.{one_place, one_program}
+use Rattle.mk_ast.specs.declared.tree.Program.{Program as Tree}
+use Rattle.mk_ast.specs.Spells.{Spells, IsRefusedAt}
+use Rattle.mk_types.specs.declared.offence.Offence.{Offence}
+use Rattle.mk_types.specs.declared.offence.OffenceKind.{OffenceKind}
+use Rattle.mk_types.specs.declared.offence.OffenceKind.TheVariants as kind_
+use Rattle.mk_types.specs.First.{IsFirst}
+use Rattle.mk_types.specs.Offences.{offences, IsWellTyped}
+use Rattle.mk_types.proofs.Least.{first_one, none_first}
+use Rattle.mk_top.specs.declared.first.Program.{Program}
+use Rattle.mk_top.specs.First.{HasFirstForm, IsNoSource}
 use Rattle.mk_top.specs.Answers.{PairDecides, BundleDecides, SourceDecides, TextDecides, Decides, limit_of}
 
 -- the words ask for one command
@@ -70,21 +80,63 @@ pair-one code cert (Some (Output j)) (Some (Output k)) first second = ap (λ (i 
 pair-one code cert (Some (Output j)) (Some fault) first second = absurd second
 pair-one code cert (Some fault) b first second = absurd first
 
+-- the fault of an offence
+abbrev fault_of_offence : Offence → Fault
+fault_of_offence x = by x.kind x.at
+  where
+    by : OffenceKind → Place → Fault
+    by kind_.Unknown at = Unknown at
+    by kind_.Twice at = Twice at
+    by kind_.Kind at = Kind at
+    by kind_.AssignInput at = AssignInput at
+    by kind_.MapForm at = MapForm at
+
+-- what a tree decides, by its offences and its form
+data TreeDecides (tree : Tree) (answer : Option Fault) : Type 0 where
+  formed : answer ≡ None → IsWellTyped tree → (p : Program) → HasFirstForm tree p → TreeDecides tree answer
+  other : answer ≡ Some NotYet → IsWellTyped tree → ((p : Program) → HasFirstForm tree p → ⊥) → TreeDecides tree answer
+  offends : (x : Offence) → answer ≡ Some (fault_of_offence x) → IsFirst (offences tree) x → TreeDecides tree answer
+
+-- a well typed tree has no first offence
+typed-not : (tree : Tree) (x : Offence) → IsWellTyped tree → IsFirst (offences tree) x → ⊥
+typed-not tree x typed first = none_first x (subst (λ (xs : List Offence). IsFirst xs x) typed first)
+
+-- a tree decides one answer
+tree-one : (tree : Tree) (a b : Option Fault) → TreeDecides tree a → TreeDecides tree b → a ≡ b
+tree-one tree a b (formed e typed p form) (formed f others q again) = e ∙ sym f
+tree-one tree a b (formed e typed p form) (other f others none) = absurd (none p form)
+tree-one tree a b (formed e typed p form) (offends y f first) = absurd (typed-not tree y typed first)
+tree-one tree a b (other e typed none) (formed f others q again) = absurd (none q again)
+tree-one tree a b (other e typed none) (other f others never) = e ∙ sym f
+tree-one tree a b (other e typed none) (offends y f first) = absurd (typed-not tree y typed first)
+tree-one tree a b (offends x e first) (formed f typed q again) = absurd (typed-not tree x typed first)
+tree-one tree a b (offends x e first) (other f typed never) = absurd (typed-not tree x typed first)
+tree-one tree a b (offends x e first) (offends y f second) =
+    e ∙ ap (λ (z : Offence). Some (fault_of_offence z)) (first_one (offences tree) x y first second) ∙ sym f
+
+-- a source goes wrong at a place, or spells a tree
+data Sourced (bytes : List ℕ) (answer : Option Fault) : Type 0 where
+  refused : (at : Place) → answer ≡ Some (Syntax at) → IsRefusedAt bytes at → IsNoSource bytes → Sourced bytes answer
+  spelled : (tree : Tree) → Spells tree bytes → TreeDecides tree answer → Sourced bytes answer
+
+sourced : (bytes : List ℕ) (answer : Option Fault) → SourceDecides bytes answer → Sourced bytes answer
+sourced bytes None d = spelled d.0 d.1 (formed refl d.2 d.3.0 d.3.1)
+sourced bytes (Some NotYet) d = spelled d.tree d.spelled (other refl d.typed (d.other d.tree d.spelled))
+sourced bytes (Some (Syntax at)) d = refused at refl d.0 d.1
+sourced bytes (Some (Unknown at)) d = spelled d.0 d.1 (offends (record { at = at; kind = kind_.Unknown }) refl d.2)
+sourced bytes (Some (Twice at)) d = spelled d.0 d.1 (offends (record { at = at; kind = kind_.Twice }) refl d.2)
+sourced bytes (Some (Kind at)) d = spelled d.0 d.1 (offends (record { at = at; kind = kind_.Kind }) refl d.2)
+sourced bytes (Some (AssignInput at)) d = spelled d.0 d.1 (offends (record { at = at; kind = kind_.AssignInput }) refl d.2)
+sourced bytes (Some (MapForm at)) d = spelled d.0 d.1 (offends (record { at = at; kind = kind_.MapForm }) refl d.2)
+sourced bytes (Some fault) d = absurd d
+
 -- a source decides one answer
-source-one : (bytes : List ℕ) (a b : Option Fault) → SourceDecides bytes a → SourceDecides bytes b → a ≡ b
-source-one bytes None None first second = refl
-source-one bytes None (Some NotYet) first second = absurd (second.other first.0 first.1 first.2.0 first.2.1)
-source-one bytes None (Some (Syntax at)) first second = absurd (second.1 first.0 first.1)
-source-one bytes None (Some fault) first second = absurd second
-source-one bytes (Some NotYet) None first second = absurd (first.other second.0 second.1 second.2.0 second.2.1)
-source-one bytes (Some NotYet) (Some NotYet) first second = refl
-source-one bytes (Some NotYet) (Some (Syntax at)) first second = absurd (second.1 first.tree first.spelled)
-source-one bytes (Some NotYet) (Some fault) first second = absurd second
-source-one bytes (Some (Syntax at)) None first second = absurd (first.1 second.0 second.1)
-source-one bytes (Some (Syntax at)) (Some NotYet) first second = absurd (first.1 second.tree second.spelled)
-source-one bytes (Some (Syntax at)) (Some (Syntax place)) first second = ap (λ (p : Place). Some (Syntax p)) (one_place at place bytes first.0 second.0)
-source-one bytes (Some (Syntax at)) (Some fault) first second = absurd second
-source-one bytes (Some fault) b first second = absurd first
+source-one : (bytes : List ℕ) (a b : Option Fault) → Sourced bytes a → Sourced bytes b → a ≡ b
+source-one bytes a b (refused at e first none) (refused place f second never) = e ∙ ap (λ (p : Place). Some (Syntax p)) (one_place at place bytes first second) ∙ sym f
+source-one bytes a b (refused at e first none) (spelled tree is decides) = absurd (none tree is)
+source-one bytes a b (spelled tree is decides) (refused place f second never) = absurd (never tree is)
+source-one bytes a b (spelled tree is decides) (spelled again are others) =
+    tree-one again a b (subst (λ (t : Tree). TreeDecides t a) (one_program tree again bytes is are) decides) others
 
 -- the line that is named is one
 names-one : (bytes : List ℕ) (m n : ℕ) → NamesFirst m bytes → NamesFirst n bytes → m ≡ n
@@ -140,7 +192,7 @@ module _ (differ : TextsDiffer) where
 
   -- the text that a command reads decides one answer
   text-one : (command : Command) (bytes : List ℕ) (a b : Option Fault) → TextDecides command bytes a → TextDecides command bytes b → a ≡ b
-  text-one (Compile order) bytes a b first second = source-one bytes a b first second
+  text-one (Compile order) bytes a b first second = source-one bytes a b (sourced bytes a first) (sourced bytes b second)
   text-one Check bytes a b first second = bundle-one bytes a b (bundled bytes a first) (bundled bytes b second)
 
   -- the input of a command decides one answer

@@ -6,7 +6,7 @@ use Rattle.mk_top.specs.declared.command.Command.{Command}
 use Rattle.mk_top.specs.declared.command.Command.TheVariants.{Compile, Check}
 use Rattle.mk_top.specs.declared.status.Status.TheVariants as status
 use Rattle.mk_top.specs.declared.fault.Fault.{Fault}
-use Rattle.mk_top.specs.declared.fault.Fault.TheVariants.{Words, NotYet, Syntax, ReadFault, WriteFault, Memory, TooLong, Bundle, Tile, Operand, Output}
+use Rattle.mk_top.specs.declared.fault.Fault.TheVariants.{Words, NotYet, Syntax, Unknown, Twice, Kind, AssignInput, MapForm, ReadFault, WriteFault, Memory, TooLong, Bundle, Tile, Operand, Output}
 use Rattle.mk_top.specs.Words.{Asks}
 use Rattle.mk_top.specs.Faults.{status_of}
 use Rattle.mk_top.specs.Answers.{ReadWhole, Makes, Decides, TextDecides, Because, IsOrMemory, answer_status, limit_of}
@@ -16,7 +16,7 @@ use Rattle.mk_top.proofs.Deciding.{asks-one, decides-one}
 -- what a command makes of its input decides that there is no fault
 makes-decides : (command : Command) (bytes written : List ℕ) → Makes command (Some bytes) written → length bytes ≤ limit_of command → Decides command bytes None
 makes-decides (Compile order) bytes written makes within =
-    (within, (makes.source.tree, makes.source.spelled.spelled, (makes.program, makes.source.form)))
+    (within, (makes.source.tree, makes.source.spelled.spelled, makes.source.typed, (makes.program, makes.source.form)))
 makes-decides Check bytes written makes within =
     (within, (makes.0.code, makes.0.cert, makes.0.pair, makes.0.bundle, (makes.0.sums, makes.0.accepted)))
 
@@ -55,6 +55,16 @@ stopped-because command given after reads then_reads before taken writes then_wr
     within-decides command given after (λ bs. TextDecides command bs (Some NotYet)) s.1 s.0
 stopped-because command given after reads then_reads before taken writes then_writes (Syntax at) s =
     within-decides command given after (λ bs. TextDecides command bs (Some (Syntax at))) s.1 s.0
+stopped-because command given after reads then_reads before taken writes then_writes (Unknown at) s =
+    within-decides command given after (λ bs. TextDecides command bs (Some (Unknown at))) s.1 s.0
+stopped-because command given after reads then_reads before taken writes then_writes (Twice at) s =
+    within-decides command given after (λ bs. TextDecides command bs (Some (Twice at))) s.1 s.0
+stopped-because command given after reads then_reads before taken writes then_writes (Kind at) s =
+    within-decides command given after (λ bs. TextDecides command bs (Some (Kind at))) s.1 s.0
+stopped-because command given after reads then_reads before taken writes then_writes (AssignInput at) s =
+    within-decides command given after (λ bs. TextDecides command bs (Some (AssignInput at))) s.1 s.0
+stopped-because command given after reads then_reads before taken writes then_writes (MapForm at) s =
+    within-decides command given after (λ bs. TextDecides command bs (Some (MapForm at))) s.1 s.0
 stopped-because command given after reads then_reads before taken writes then_writes ReadFault s = s
 stopped-because command given after reads then_reads before taken writes then_writes WriteFault s = s.rose
 stopped-because command given after reads then_reads before taken writes then_writes Memory s = tt
@@ -88,6 +98,11 @@ module _ (differ : TextsDiffer) where
       go Words s decides = absurd s
       go NotYet s decides = decided-fault command bytes NotYet answer (s.1.0, s.0) decides
       go (Syntax at) s decides = decided-fault command bytes (Syntax at) answer (s.1.0, s.0) decides
+      go (Unknown at) s decides = decided-fault command bytes (Unknown at) answer (s.1.0, s.0) decides
+      go (Twice at) s decides = decided-fault command bytes (Twice at) answer (s.1.0, s.0) decides
+      go (Kind at) s decides = decided-fault command bytes (Kind at) answer (s.1.0, s.0) decides
+      go (AssignInput at) s decides = decided-fault command bytes (AssignInput at) answer (s.1.0, s.0) decides
+      go (MapForm at) s decides = decided-fault command bytes (MapForm at) answer (s.1.0, s.0) decides
       go ReadFault s decides = absurd (calm s.0)
       go WriteFault s decides =
           absurd (still (decides-one differ command bytes answer None decides (makes-decides command bytes s.written s.makes s.read.0)) s.rose)

@@ -4,7 +4,7 @@ use Rattle.mk_base.specs.Streams.{ReadsAll}
 use Rattle.mk_top.specs.declared.command.Command.{Command}
 use Rattle.mk_top.specs.declared.command.Command.TheVariants.{Compile, Check}
 use Rattle.mk_top.specs.declared.fault.Fault.{Fault}
-use Rattle.mk_top.specs.declared.fault.Fault.TheVariants.{Words, NotYet, Syntax, ReadFault, WriteFault, Memory, TooLong, Bundle, Tile, Operand, Output}
+use Rattle.mk_top.specs.declared.fault.Fault.TheVariants.{Words, NotYet, Syntax, Unknown, Twice, Kind, AssignInput, MapForm, ReadFault, WriteFault, Memory, TooLong, Bundle, Tile, Operand, Output}
 use Rattle.mk_top.specs.Answers.{ReadWhole, Compiles, Checks, limit_of, TextDecides, IsAnswerOf}
 use Rattle.mk_top.specs.First.{IsSourceOf}
 use Rattle.mk_top.specs.Faults.{status_of}
@@ -88,6 +88,11 @@ decides-given (Some rest) after bytes P read holds = subst P read.whole holds
 answer-of : (command : Command) (bytes : List ℕ) (fault : Fault) → TextDecides command bytes (Some fault) → IsAnswerOf command (status_of fault)
 answer-of (Compile order) bytes NotYet decides = tt
 answer-of (Compile order) bytes (Syntax at) decides = tt
+answer-of (Compile order) bytes (Unknown at) decides = tt
+answer-of (Compile order) bytes (Twice at) decides = tt
+answer-of (Compile order) bytes (Kind at) decides = tt
+answer-of (Compile order) bytes (AssignInput at) decides = tt
+answer-of (Compile order) bytes (MapForm at) decides = tt
 answer-of (Compile order) bytes fault decides = absurd decides
 answer-of Check bytes NotYet decides = tt
 answer-of Check bytes (Bundle line) decides = tt
@@ -104,6 +109,16 @@ not_made-given command given after reads then_reads bytes NotYet within read why
     (decides-given given after bytes (λ bs. TextDecides command bs (Some NotYet)) read why, read-given given after bytes (limit_of command) within read, answer-of command bytes NotYet why)
 not_made-given command given after reads then_reads bytes (Syntax at) within read why =
     (decides-given given after bytes (λ bs. TextDecides command bs (Some (Syntax at))) read why, read-given given after bytes (limit_of command) within read, answer-of command bytes (Syntax at) why)
+not_made-given command given after reads then_reads bytes (Unknown at) within read why =
+    (decides-given given after bytes (λ bs. TextDecides command bs (Some (Unknown at))) read why, read-given given after bytes (limit_of command) within read, answer-of command bytes (Unknown at) why)
+not_made-given command given after reads then_reads bytes (Twice at) within read why =
+    (decides-given given after bytes (λ bs. TextDecides command bs (Some (Twice at))) read why, read-given given after bytes (limit_of command) within read, answer-of command bytes (Twice at) why)
+not_made-given command given after reads then_reads bytes (Kind at) within read why =
+    (decides-given given after bytes (λ bs. TextDecides command bs (Some (Kind at))) read why, read-given given after bytes (limit_of command) within read, answer-of command bytes (Kind at) why)
+not_made-given command given after reads then_reads bytes (AssignInput at) within read why =
+    (decides-given given after bytes (λ bs. TextDecides command bs (Some (AssignInput at))) read why, read-given given after bytes (limit_of command) within read, answer-of command bytes (AssignInput at) why)
+not_made-given command given after reads then_reads bytes (MapForm at) within read why =
+    (decides-given given after bytes (λ bs. TextDecides command bs (Some (MapForm at))) read why, read-given given after bytes (limit_of command) within read, answer-of command bytes (MapForm at) why)
 not_made-given command given after reads then_reads bytes ReadFault within read why = absurd why
 not_made-given command given after reads then_reads bytes WriteFault within read why = why
 not_made-given command given after reads then_reads bytes Memory within read why = tt

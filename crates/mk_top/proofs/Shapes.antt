@@ -1,5 +1,5 @@
 -- The program that is read from a tree is the one that the tree is.
-use Rattle.std.proofs.Common.{◌≡◌, ℕ, true, false, List, [], ◌∷◌, ◌++◌, map, Option, Some, None, refl, sym, ap, subst, ◌∙◌, inl, inr, append_assoc}
+use Rattle.std.proofs.Common.{◌≡◌, ℕ, true, false, List, [], ◌∷◌, ◌++◌, map, Option, Some, None, Result, Ok, Err, IfOk, refl, sym, ap, subst, ◌∙◌, inl, inr, ◌⊎◌, append_assoc}
 use Rattle.std.specs.Prelude.{cond, bytes_eq, ◌&&◌}
 use Rattle.std.proofs.lemmas.Bool.{cases_Bool, cond-true, cond-false, and_parts, and_from}
 use Rattle.std.proofs.lemmas.Option.{cond_some}
@@ -25,7 +25,13 @@ use Rattle.mk_top.specs.declared.first.Program.{Program}
 use Rattle.mk_ast.specs.declared.refusal.SourceRefusal.{SourceRefusal}
 use Rattle.mk_ast.specs.declared.refusal.SourceRefusal.TheVariants as refusal
 use Rattle.mk_parse.specs.Parsed.{IsOnlyProgram}
-use Rattle.mk_top.specs.First.{declared, scalar, referred, plain, IsTreeOf, IsProgram, HasFirstForm, IsOtherSource}
+use Rattle.mk_base.specs.declared.Place.{Place}
+use Rattle.mk_types.specs.declared.offence.Offence.{Offence}
+use Rattle.mk_types.specs.declared.offence.OffenceKind.{OffenceKind}
+use Rattle.mk_types.specs.declared.offence.OffenceKind.TheVariants as kind_
+use Rattle.mk_types.specs.First.{IsFirst, refusal as refusal_of}
+use Rattle.mk_types.specs.Offences.{offences, IsWellTyped}
+use Rattle.mk_top.specs.First.{declared, scalar, referred, plain, IsTreeOf, IsProgram, HasFirstForm, IsSourceOf, IsOtherSource}
 use Rattle.mk_top.specs.Reading.{Fails, IsFormRefusal, IsSourceRefusal, ◌>>=◌, is_secret, is_output, secrets_first, output_alone, name_referred, name_read, names_read, parts_of_sum, sum_alone, is_bytes, program_of}
 
 -- ---- steps
@@ -340,15 +346,35 @@ pub names_refused : (tree : Tree) (p : Program) → program_of tree ≡ Some p �
 names_refused tree p e bad q h = bad (subst IsProgram (one_program tree p q e h) h.0)
 
 -- a text whose only tree is refused for its form
-pub other_source : (text : List ℕ) (tree : Tree) → IsOnlyProgram text tree → ((p : Program) → HasFirstForm tree p → ⊥) → IsOtherSource text
-other_source text tree only other = record {
+pub other_source : (text : List ℕ) (tree : Tree) → IsOnlyProgram text tree → IsWellTyped tree → ((p : Program) → HasFirstForm tree p → ⊥) → IsOtherSource text
+other_source text tree only typed other = record {
   tree = tree;
   spelled = only.spelled;
+  typed = typed;
   other = λ t spelled p h. other p (subst (λ (u : Tree). HasFirstForm u p) (only.alone t spelled) h);
 }
 
 -- why a text is refused, by its only tree
-pub source_refused : (text : List ℕ) (tree : Tree) (e : SourceRefusal) → IsOnlyProgram text tree → IsFormRefusal tree e → IsSourceRefusal text e
-source_refused text tree (refusal.NotYet at) only h = (h.0, other_source text tree only h.1)
-source_refused text tree refusal.Memory only h = tt
-source_refused text tree e only h = absurd h
+pub source_refused : (text : List ℕ) (tree : Tree) (e : SourceRefusal) → IsOnlyProgram text tree → IsWellTyped tree → IsFormRefusal tree e → IsSourceRefusal text e
+source_refused text tree (refusal.NotYet at) only typed h = (h.0, other_source text tree only typed h.1)
+source_refused text tree refusal.Memory only typed h = tt
+source_refused text tree e only typed h = absurd h
+
+-- why a text is refused, by the first offence of its tree
+pub typing_refused : (text : List ℕ) (tree : Tree) (e : SourceRefusal) → IsOnlyProgram text tree
+    → (e ≡ refusal.Memory) ⊎ ((x : Offence) × IsFirst (offences tree) x × (e ≡ refusal_of x)) → IsSourceRefusal text e
+typing_refused text tree e only (inl wanted) = subst (IsSourceRefusal text) (sym wanted) tt
+typing_refused text tree e only (inr h) = subst (IsSourceRefusal text) (sym h.2) (by h.0.kind h.0.at h.1)
+  where
+    by : (kind : OffenceKind) (at : Place) → IsFirst (offences tree) (record { at = at; kind = kind }) → IsSourceRefusal text (refusal_of (record { at = at; kind = kind }))
+    by kind_.Unknown at first = (tree, only.spelled, first)
+    by kind_.Twice at first = (tree, only.spelled, first)
+    by kind_.Kind at first = (tree, only.spelled, first)
+    by kind_.AssignInput at first = (tree, only.spelled, first)
+    by kind_.MapForm at first = (tree, only.spelled, first)
+
+-- a well typed tree of the first form is that of its text
+pub source_found : (text : List ℕ) (tree : Tree) (r : Result Program SourceRefusal) → IsOnlyProgram text tree → IsWellTyped tree
+    → IfOk r (HasFirstForm tree) → IfOk r (λ p. (q : Program) → HasFirstForm tree q → q ≡ p) → IfOk r (IsSourceOf text)
+source_found text tree (Ok p) only typed form alone = record { tree = tree; spelled = only; typed = typed; form = form; alone = alone }
+source_found text tree (Err e) only typed form alone = tt

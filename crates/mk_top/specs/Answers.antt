@@ -15,14 +15,16 @@ use Rattle.mk_bundle.specs.Text.{text}
 use Rattle.mk_bundle.specs.Pairs.{IsPair, IsBundleText, NamesFirst}
 use Rattle.mk_ast.specs.declared.tree.Program.{Program as Tree}
 use Rattle.mk_ast.specs.Spells.{Spells, IsRefusedAt}
+use Rattle.mk_types.specs.declared.offence.OffenceKind.TheVariants as kind_
+use Rattle.mk_types.specs.Offences.{IsWellTyped}
 use Rattle.mk_top.specs.declared.first.Program.{Program}
 use Rattle.mk_top.specs.declared.command.Command.{Command}
 use Rattle.mk_top.specs.declared.command.Command.TheVariants.{Compile, Check}
 use Rattle.mk_top.specs.declared.status.Status.{Status}
 use Rattle.mk_top.specs.declared.status.Status.TheVariants as status
 use Rattle.mk_top.specs.declared.fault.Fault.{Fault}
-use Rattle.mk_top.specs.declared.fault.Fault.TheVariants.{Words, NotYet, Syntax, ReadFault, WriteFault, Memory, TooLong, Bundle, Tile, Operand, Output}
-use Rattle.mk_top.specs.First.{HasFirstForm, IsSourceOf, IsNoSource, IsOtherSource}
+use Rattle.mk_top.specs.declared.fault.Fault.TheVariants.{Words, NotYet, Syntax, Unknown, Twice, Kind, AssignInput, MapForm, ReadFault, WriteFault, Memory, TooLong, Bundle, Tile, Operand, Output}
+use Rattle.mk_top.specs.First.{HasFirstForm, HasFirstOffence, IsSourceOf, IsNoSource, IsOtherSource}
 use Rattle.mk_top.specs.Correct.{Correct}
 use Rattle.mk_top.specs.Compiled.{IsCompiled}
 use Rattle.mk_top.specs.Faults.{status_of, fault_line}
@@ -52,6 +54,11 @@ PairDecides code cert None = AreSums cert.blocks × IsAccepted code cert
 PairDecides code cert (Some Words) = ⊥
 PairDecides code cert (Some NotYet) = AreSums cert.blocks → ⊥
 PairDecides code cert (Some (Syntax at)) = ⊥
+PairDecides code cert (Some (Unknown at)) = ⊥
+PairDecides code cert (Some (Twice at)) = ⊥
+PairDecides code cert (Some (Kind at)) = ⊥
+PairDecides code cert (Some (AssignInput at)) = ⊥
+PairDecides code cert (Some (MapForm at)) = ⊥
 PairDecides code cert (Some ReadFault) = ⊥
 PairDecides code cert (Some WriteFault) = ⊥
 PairDecides code cert (Some Memory) = ⊥
@@ -69,12 +76,18 @@ abbrev pub BundleDecides : List ℕ → Option Fault → Type 0
 BundleDecides bytes (Some (Bundle line)) = NamesFirst line bytes × (IsBundleText bytes → ⊥)
 BundleDecides bytes answer = (code : Listing) × (cert : Claimed) × IsPair code cert × (bytes ≡ text code cert) × PairDecides code cert answer
 
--- the answer that a source decides: it spells a tree of the first form, or only others, or none, and
--- then its first place where no program can go on
+-- The answer that a source decides: it spells a tree that is well typed and of the first form, or only
+-- others that are well typed, or one with a first offence, or none, and then its first place where no
+-- program can go on.
 abbrev pub SourceDecides : List ℕ → Option Fault → Type 0
-SourceDecides bytes None = (tree : Tree) × Spells tree bytes × ((p : Program) × HasFirstForm tree p)
+SourceDecides bytes None = (tree : Tree) × Spells tree bytes × IsWellTyped tree × ((p : Program) × HasFirstForm tree p)
 SourceDecides bytes (Some NotYet) = IsOtherSource bytes
 SourceDecides bytes (Some (Syntax at)) = IsRefusedAt bytes at × IsNoSource bytes
+SourceDecides bytes (Some (Unknown at)) = HasFirstOffence bytes kind_.Unknown at
+SourceDecides bytes (Some (Twice at)) = HasFirstOffence bytes kind_.Twice at
+SourceDecides bytes (Some (Kind at)) = HasFirstOffence bytes kind_.Kind at
+SourceDecides bytes (Some (AssignInput at)) = HasFirstOffence bytes kind_.AssignInput at
+SourceDecides bytes (Some (MapForm at)) = HasFirstOffence bytes kind_.MapForm at
 SourceDecides bytes (Some _) = ⊥
 
 -- the answer that the bytes within the limit decide
@@ -88,8 +101,8 @@ Decides command bytes (Some (TooLong limit)) = (limit ≡ limit_of command) × (
 Decides command bytes answer = (length bytes ≤ limit_of command) × TextDecides command bytes answer
 
 -- A source, given where the input tells its bytes, was compiled at this order to this text: the bytes
--- spell one tree, which has the first form as this program, and the text is that of a code and a
--- certificate which are the program's. The code is correct for the program and private, the rule accepts
+-- spell one tree, which is well typed and has the first form as this program, and the text is that of a
+-- code and a certificate which are the program's. The code is correct for the program and private, the rule accepts
 -- it with the certificate, and the bytes of the text decide that `check` has no fault.
 pub record Compiles (order : ℕ) (given : Option (List ℕ)) (written : List ℕ) : Type 0 where
   pub program : Program

@@ -31,6 +31,11 @@ abbrev pub status_of : Fault → Status
 status_of fault.Words = status.Words
 status_of fault.NotYet = status.Source
 status_of (fault.Syntax at) = status.Source
+status_of (fault.Unknown at) = status.Source
+status_of (fault.Twice at) = status.Source
+status_of (fault.Kind at) = status.Source
+status_of (fault.AssignInput at) = status.Source
+status_of (fault.MapForm at) = status.Source
 status_of fault.ReadFault = status.ReadFault
 status_of fault.WriteFault = status.WriteFault
 status_of fault.Memory = status.Memory
@@ -45,6 +50,11 @@ abbrev pub fault_line : Fault → List ℕ
 fault_line fault.Words = codes "21 words\n"
 fault_line fault.NotYet = codes "30 not yet 1:1\n"
 fault_line (fault.Syntax at) = codes "31 syntax " ++ decimal at.line ++ codes ":" ++ decimal at.column ++ 10 ∷ []
+fault_line (fault.Unknown at) = codes "32 unknown " ++ decimal at.line ++ codes ":" ++ decimal at.column ++ 10 ∷ []
+fault_line (fault.Twice at) = codes "33 twice " ++ decimal at.line ++ codes ":" ++ decimal at.column ++ 10 ∷ []
+fault_line (fault.Kind at) = codes "34 kind " ++ decimal at.line ++ codes ":" ++ decimal at.column ++ 10 ∷ []
+fault_line (fault.AssignInput at) = codes "35 input " ++ decimal at.line ++ codes ":" ++ decimal at.column ++ 10 ∷ []
+fault_line (fault.MapForm at) = codes "36 map " ++ decimal at.line ++ codes ":" ++ decimal at.column ++ 10 ∷ []
 fault_line fault.ReadFault = codes "6 read fault\n"
 fault_line fault.WriteFault = codes "7 write fault\n"
 fault_line fault.Memory = codes "8 memory\n"

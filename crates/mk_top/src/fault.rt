@@ -16,6 +16,16 @@ pub enum Fault {
     NotYet,
     /// No program goes on with what stands at this place of the source.
     Syntax { at: Place },
+    /// The name at this place of the source is not declared.
+    Unknown { at: Place },
+    /// The name at this place of the source is declared twice.
+    Twice { at: Place },
+    /// What stands at this place of the source is of another kind than its place wants.
+    Kind { at: Place },
+    /// The target at this place of the source is an input.
+    AssignInput { at: Place },
+    /// The map at this place of the source is none that the field has.
+    MapForm { at: Place },
     /// Reading failed.
     ReadFault,
     /// Writing failed.
@@ -69,7 +79,13 @@ impl Fault {
     {
         match self {
             Fault::Words => Status::Words,
-            Fault::NotYet | Fault::Syntax { at: _ } => Status::Source,
+            Fault::NotYet
+            | Fault::Syntax { at: _ }
+            | Fault::Unknown { at: _ }
+            | Fault::Twice { at: _ }
+            | Fault::Kind { at: _ }
+            | Fault::AssignInput { at: _ }
+            | Fault::MapForm { at: _ } => Status::Source,
             Fault::ReadFault => Status::ReadFault,
             Fault::WriteFault => Status::WriteFault,
             Fault::Memory => Status::Memory,
@@ -89,6 +105,11 @@ impl Fault {
             Fault::Words => fixed("21 words\n"),
             Fault::NotYet => fixed("30 not yet 1:1\n"),
             Fault::Syntax { at } => placed("31 syntax ", at),
+            Fault::Unknown { at } => placed("32 unknown ", at),
+            Fault::Twice { at } => placed("33 twice ", at),
+            Fault::Kind { at } => placed("34 kind ", at),
+            Fault::AssignInput { at } => placed("35 input ", at),
+            Fault::MapForm { at } => placed("36 map ", at),
             Fault::ReadFault => fixed("6 read fault\n"),
             Fault::WriteFault => fixed("7 write fault\n"),
             Fault::Memory => fixed("8 memory\n"),

@@ -12,6 +12,7 @@ use checks::is_program;
 use mk_ast::{Program as Tree, SourceRefusal};
 use mk_base::{Bytes, Place, Words};
 use mk_parse::parse;
+use mk_types::check_types;
 use names::names_of;
 use std::alloc::Global;
 
@@ -52,12 +53,13 @@ fn first_form(alloc: Global, tree: &Tree) -> Result<Program, SourceRefusal>
 pub(crate) fn read_first(alloc: Global, text: &[u8]) -> Result<Program, SourceRefusal>
     requires { length text.now ≤ 1048576 }
 
-    // The text spells one tree, which has the first form as this program.
+    // The text spells one tree, which is well typed and has the first form as this program.
     ensures found { IfOk result (IsSourceOf text.now) }
 
-    // What is refused spells no tree, or one of another form.
+    // What is refused spells no tree, or one that is not well typed, or one of another form.
     ensures refused { IfErr result (IsSourceRefusal text.now) }
 {
     let tree = parse(alloc, text)?;
-    first_form(alloc, &tree)
+    let typed = check_types(alloc, tree)?;
+    first_form(alloc, typed.program())
 }

@@ -23,8 +23,13 @@ fn program_of(alloc: Global, source: &[u8]) -> Result<Program, Fault>
         Ok(program) => Ok(program),
         Err(SourceRefusal::NotYet(_)) => Err(Fault::NotYet),
         Err(SourceRefusal::Syntax(at)) => Err(Fault::Syntax { at }),
+        Err(SourceRefusal::Unknown(at)) => Err(Fault::Unknown { at }),
+        Err(SourceRefusal::Twice(at)) => Err(Fault::Twice { at }),
+        Err(SourceRefusal::Kind(at)) => Err(Fault::Kind { at }),
+        Err(SourceRefusal::AssignInput(at)) => Err(Fault::AssignInput { at }),
+        Err(SourceRefusal::MapForm(at)) => Err(Fault::MapForm { at }),
         Err(SourceRefusal::Memory) => Err(Fault::Memory),
-        // Names, kinds, limits and indexes are not looked at yet.
+        // Limits and the values of indexes are not looked at yet.
         Err(_) => unreachable!(),
     }
 }

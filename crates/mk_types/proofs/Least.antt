@@ -1,9 +1,13 @@
 -- What is noted of a list is the first of its offences.
-use Rattle.std.proofs.Common.{◌≡◌, ℕ, zero, suc, ◌<◌, ◌⊎◌, inl, inr, Bool, true, false, List, [], ◌∷◌, Some, None, refl, sym, ap, ◌∙◌, subst, arith, if◌then◌else◌, true≢false}
+use Rattle.std.proofs.Common.{◌≡◌, ℕ, zero, suc, ◌<◌, ◌⊎◌, inl, inr, Bool, true, false, List, [], ◌∷◌, Some, None, refl, sym, ap, ◌∙◌, subst, arith, if◌then◌else◌, true≢false, ◌==◌}
+use Rattle.std.proofs.lemmas.Bool.{cases_lt}
 use Rattle.std.proofs.lemmas.Bool.Decides.{Decides-or, Decides-and, Decides-ltb, Decides-eqb}
 use Rattle.std.specs.Bool.{Decides}
 use Rattle.std.specs.List.{AllByRecursion, Contains}
+use Rattle.mk_base.specs.declared.Place.{Place}
 use Rattle.mk_types.specs.declared.offence.Offence.{Offence}
+use Rattle.mk_types.specs.declared.offence.OffenceKind.{OffenceKind}
+use Rattle.mk_types.specs.declared.offence.OffenceKind.TheVariants as kind_
 use Rattle.mk_types.specs.First.{number, is_before, IsFirst}
 use Rattle.mk_types.specs.Noted.{noted}
 
@@ -135,3 +139,70 @@ none_noted (x ∷ xs) e =
     let h = least x xs in
     let both : Some h.0 ≡ None = sym h.1.noted_is ∙ e in
     cc
+
+-- numbers of which neither is below the other are equal
+neither_below : (m n : ℕ) → (m < n → ⊥) → (n < m → ⊥) → m ≡ n
+neither_below m n a b =
+    elim (cases_lt m n) [
+      | inl below ↦ absurd (a below)
+      | inr above ↦ elim (cases_lt n m) [
+        | inl below ↦ absurd (b below)
+        | inr same ↦ omega (arith, above, same)
+      ]
+    ]
+
+-- the kind of a number
+abbrev kind_of : ℕ → OffenceKind
+kind_of n =
+    if n == 32 then kind_.Unknown else if n == 33 then kind_.Twice else if n == 34 then kind_.Kind else if n == 35 then kind_.AssignInput else kind_.MapForm
+
+-- it is the one that has the number
+kind_again : (k : OffenceKind) → kind_of (number k) ≡ k
+kind_again kind_.Unknown = refl
+kind_again kind_.Twice = refl
+kind_again kind_.Kind = refl
+kind_again kind_.AssignInput = refl
+kind_again kind_.MapForm = refl
+
+-- a place, of its numbers
+abbrev place_of : ℕ → ℕ → Place
+place_of line column = record { line = line; column = column }
+
+-- an offence, of its parts
+abbrev offence_of : Place → OffenceKind → Offence
+offence_of at kind = record { at = at; kind = kind }
+
+-- offences of equal numbers are equal
+same_offence : (x y : Offence) → x.at.line ≡ y.at.line → x.at.column ≡ y.at.column → number x.kind ≡ number y.kind → x ≡ y
+same_offence x y line column kind =
+    let kinds : x.kind ≡ y.kind = sym (kind_again x.kind) ∙ ap kind_of kind ∙ kind_again y.kind in
+    let places : x.at ≡ y.at = ap (λ (l : ℕ). place_of l x.at.column) line ∙ ap (λ (c : ℕ). place_of y.at.line c) column in
+    ap (λ (a : Place). offence_of a x.kind) places ∙ ap (λ (k : OffenceKind). offence_of y.at k) kinds
+
+-- what is not before is not
+not_before : (x y : Offence) → is_before x y ≡ false → IsBefore x y → ⊥
+not_before x y e h = true≢false (sym ((decides x y).1 h) ∙ e)
+
+-- offences of which neither is before the other are equal
+neither_before : (x y : Offence) → is_before x y ≡ false → is_before y x ≡ false → x ≡ y
+neither_before x y e f =
+    let line : x.at.line ≡ y.at.line = neither_below x.at.line y.at.line (λ h. not_before x y e (inl (inl h))) (λ h. not_before y x f (inl (inl h))) in
+    let column : x.at.column ≡ y.at.column =
+    neither_below x.at.column y.at.column (λ h. not_before x y e (inl (inr (line, h)))) (λ h. not_before y x f (inl (inr (sym line, h)))) in
+    same_offence x y line column
+    (neither_below (number x.kind) (number y.kind) (λ h. not_before x y e (inr ((line, column), h))) (λ h. not_before y x f (inr ((sym line, sym column), h))))
+
+-- what holds of all holds of one among them
+one_of_all : (P : Offence → Type 0) (xs : List Offence) (x : Offence) → AllByRecursion P xs → Contains xs x → P x
+one_of_all P [] x all (k, within, is) = absurd (omega (arith, within))
+one_of_all P (y ∷ xs) x all (zero, within, is) = subst P is all.0
+one_of_all P (y ∷ xs) x all (suc k, within, is) = one_of_all P xs x all.1 (k, omega (arith, within), is)
+
+-- a list has one first offence
+pub first_one : (xs : List Offence) (x y : Offence) → IsFirst xs x → IsFirst xs y → x ≡ y
+first_one xs x y first second =
+    neither_before x y (one_of_all (λ z. is_before z y ≡ false) xs x second.least first.among) (one_of_all (λ z. is_before z x ≡ false) xs y first.least second.among)
+
+-- where there is none, none is the first
+pub none_first : (x : Offence) → IsFirst [] x → ⊥
+none_first x first = absurd (omega (arith, first.among.1))

@@ -83,17 +83,12 @@ fn programs_of_another_form_are_not_compiled_yet(rt: HostRuntime) -> Result<(), 
         "field gf2;\nsecret a;\nsecret b;\noutput y;\ny = a * b;\n",
         "field gf2; secret a; secret b; output y; y = a + b;",
         "field gf256; secret a; output y; y = a;",
-        // names that repeat, or are not declared
-        "field gf256; secret a; secret a; output y; y = a + a;",
-        "field gf256; secret a; output a; a = a + a;",
-        "field gf256; secret a; output y; z = a + a;",
-        "field gf256; secret a; output y; y = a + c;",
-        // no secret, an array, an index, another class, another part
-        "field gf256; output y; y = a + a;",
-        "field gf256; secret a[1]; output y; y = a + a;",
-        "field gf256; secret a; output y[1]; y = a + a;",
-        "field gf256; secret a; output y; y = a[0] + a;",
-        "field gf256; secret a; output y; y[0] = a + a;",
+        // a part that is no secret
+        "field gf256; secret a; output y; y = a + y;",
+        // no secret, and an array
+        "field gf256; output y; y = y + y;",
+        "field gf256; secret a[1]; output y; y = a[0] + a[0];",
+        "field gf256; secret a; output y[1]; y[0] = a + a;",
     ];
     for source in sources {
         assert!(rt; refuses(rt.alloc(), source.as_bytes(), OTHER_FORM)?);
@@ -121,6 +116,60 @@ fn more_programs_are_not_compiled_yet(rt: HostRuntime) -> Result<(), Memory> {
     for source in sources {
         assert!(rt; refuses(rt.alloc(), source.as_bytes(), OTHER_FORM)?);
     }
+    Ok(())
+}
+
+#[test]
+fn a_program_is_refused_at_its_first_offence(rt: HostRuntime) -> Result<(), Memory> {
+    let rows = [
+        ("field gf2;\noutput y;\ny = z;", "32 unknown 3:5\n"),
+        ("field gf2;\noutput y;\noutput y;", "33 twice 3:8\n"),
+        (
+            "field gf2;\nsecret s;\nlocal public q;\nq = s;",
+            "34 kind 4:1\n",
+        ),
+        ("field gf2;\nsecret s;\ns = s;", "35 input 3:1\n"),
+        ("field gf2;\nmap m = 0x01;", "36 map 2:5\n"),
+        // the first of several
+        ("field gf2;\noutput y;\ny = z;\ny = a;", "32 unknown 3:5\n"),
+        // a place before one where none goes on
+        ("field gf2;\noutput y;\ny = z;\ny = ;", "31 syntax 4:5\n"),
+    ];
+    assert!(rt; refuses_each(rt.alloc(), &rows)?);
+    Ok(())
+}
+
+#[test]
+fn sums_of_other_names_are_refused_at_their_first_offence(rt: HostRuntime) -> Result<(), Memory> {
+    let rows = [
+        // names that repeat, or are not declared
+        (
+            "field gf256;\nsecret a;\nsecret a;\noutput y;\ny = a + a;",
+            "33 twice 3:8\n",
+        ),
+        (
+            "field gf256;\nsecret a;\noutput a;\na = a + a;",
+            "33 twice 3:8\n",
+        ),
+        (
+            "field gf256;\nsecret a;\noutput y;\nz = a + a;",
+            "32 unknown 4:1\n",
+        ),
+        (
+            "field gf256;\nsecret a;\noutput y;\ny = a + c;",
+            "32 unknown 4:9\n",
+        ),
+        // an array without an index, and an index without an array
+        (
+            "field gf256;\nsecret a[1];\noutput y;\ny = a + a;",
+            "34 kind 4:5\n",
+        ),
+        (
+            "field gf256;\nsecret a;\noutput y;\ny[0] = a + a;",
+            "34 kind 4:1\n",
+        ),
+    ];
+    assert!(rt; refuses_each(rt.alloc(), &rows)?);
     Ok(())
 }
 
