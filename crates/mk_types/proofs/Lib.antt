@@ -2,4 +2,10 @@ pub mod Known
 pub mod Layers
 pub mod Least
 pub mod Lists
+pub mod Accepted
+pub mod ExecutionLayers
+pub mod MapNumbers
+pub mod RegularParts
+pub mod Faults
 mod Worked
+mod WorkedExecution

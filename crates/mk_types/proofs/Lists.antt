@@ -4,7 +4,8 @@ use Rattle.std.proofs.lemmas.List.Sums.{fold-append}
 use Rattle.std.proofs.lemmas.List.Folds.{list_any-append}
 use Rattle.std.specs.List.{list_any}
 use Rattle.mk_types.specs.declared.offence.Offence.{Offence}
-use Rattle.mk_types.specs.Scope.{Scope, inside, outside}
+use Rattle.mk_types.specs.Scope.{Scope, inside}
+use Rattle.mk_types.specs.Outside.{outside}
 use Rattle.mk_types.specs.Offences.{decl_offences, decls_offences}
 use Rattle.mk_ast.specs.declared.tree.Decl.{Decl}
 use Rattle.mk_field.specs.declared.field.FieldId.{FieldId}

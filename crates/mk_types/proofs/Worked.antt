@@ -103,6 +103,13 @@ index_by_a_variable : (a b c d e : Place) → offences (program Gf2
     (stmt.Set (ref_at (codes "z") c (index.Var (codes "y") d)) (expr.Read (ref (codes "y") e)) ∷ [])) ≡ here kind_.Kind d ∷ []
 index_by_a_variable a b c d e = simp (stmt_layers, expr_layers, index_layers) refl
 
+-- `field gf2;` `secret s;` `public p[2];` `local public q;` `q = p[s];`: what stands in an index shares
+-- nothing, so the only offence is that of the index
+shared_in_an_index : (a b c d e f : Place) → offences (program Gf2
+    (scalar class_.Secret (codes "s") a ∷ array class_.Public (codes "p") b ∷ scalar class_.LocalPublic (codes "q") c ∷ [])
+    (stmt.Set (ref (codes "q") d) (expr.Read (ref_at (codes "p") e (index.Var (codes "s") f))) ∷ [])) ≡ here kind_.Kind f ∷ []
+shared_in_an_index a b c d e f = simp (stmt_layers, expr_layers, index_layers, shared_layers) refl
+
 -- `field gf256;` `map m = ..;` `output y;` `y = m;`
 map_as_a_variable : (a b c d : Place) → offences (program Gf256
     (map_of (1 ∷ 2 ∷ 3 ∷ 4 ∷ 5 ∷ 6 ∷ 7 ∷ 8 ∷ []) (codes "m") a ∷ scalar class_.Output (codes "y") b ∷ [])

@@ -1,5 +1,12 @@
 pub mod Scope
+pub mod Outside
 pub mod Offences
 pub mod First
 pub mod Known
 pub mod Noted
+pub mod Turns
+pub mod Elements
+pub mod Units
+pub mod Stops
+pub mod Environment
+pub mod Meaning

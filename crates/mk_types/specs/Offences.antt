@@ -1,5 +1,6 @@
 -- The offences of a program, by cases over its tree, each with its place: that of the name or element.
--- The rules are this project's own; docs/LANGUAGE.md has them in words.
+-- The rules are this project's own; docs/LANGUAGE.md has them in words. The order of these lists says
+-- nothing: which offence is the first follows from places and numbers.
 use Rattle.std.specs.Prelude.{◌≡◌, Bool, true, false, ◌&&◌, ◌||◌, not, List, [], ◌∷◌, ◌++◌, Option, Some, None, is_some, ℕ, nat_lt, ◌==◌, length, flat_map}
 use Rattle.mk_base.specs.declared.Place.{Place}
 use Rattle.mk_field.specs.declared.field.FieldId.{FieldId}

@@ -1,6 +1,6 @@
 -- What the names in a statement stand for: the declarations of the program, and the loops around it.
 -- The rules are this project's own; docs/LANGUAGE.md has them in words.
-use Rattle.std.specs.Prelude.{ℕ, ◌-◌, Bool, true, false, ◌&&◌, not, List, [], ◌∷◌, ◌++◌, length, take, find, flat_map, bytes_eq, Option, Some, None, is_none}
+use Rattle.std.specs.Prelude.{ℕ, Bool, true, false, ◌&&◌, not, List, [], ◌∷◌, ◌++◌, find, flat_map, bytes_eq, Option, Some, None, is_none}
 use Rattle.std.specs.List.{list_any}
 use Rattle.std.specs.Option.{option_map}
 use Rattle.mk_field.specs.declared.field.FieldId.{FieldId}
@@ -22,10 +22,6 @@ pub record Scope : Type 0 where
 -- within one more loop, of this name
 abbrev pub inside : Scope → List ℕ → Scope
 inside s name = record { field = s.field; decls = s.decls; loops = s.loops ++ name ∷ [] }
-
--- behind the innermost loop
-abbrev pub outside : Scope → Scope
-outside s = record { field = s.field; decls = s.decls; loops = take (length s.loops - 1) s.loops }
 
 -- what a name is declared to be: what the first declaration of this name says
 abbrev pub declared : List Decl → List ℕ → Option What

@@ -16,7 +16,7 @@ pub(crate) fn is_variable(what: Option<&What>) -> bool
 }
 
 /// Whether it is a variable whose values are shared.
-pub(crate) fn is_shared_variable(what: Option<&What>) -> bool
+pub fn is_shared_variable(what: Option<&What>) -> bool
     ensures { result ≡ is_variable is_shared_class (option_copied what.entry) }
 {
     match what {

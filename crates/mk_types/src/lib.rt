@@ -13,5 +13,6 @@ mod scope;
 mod statements;
 mod typed;
 
-pub use offence::{Offence, OffenceKind};
+pub use kinds::is_shared_variable;
+pub use offence::{Offence, OffenceKind, first_law};
 pub use typed::{Typed, check_types};

@@ -1,7 +1,7 @@
 //! Offences against the typing.
 
-ghost use Rattle.std.specs.Prelude.{◌≡◌};
-ghost use Rattle.mk_types.specs.First.{number, is_place_before, is_before, refusal};
+ghost use Rattle.std.specs.Prelude.{◌≡◌, List, []};
+ghost use Rattle.mk_types.specs.First.{IsFirst, number, is_place_before, is_before, refusal};
 
 use mk_ast::SourceRefusal;
 use mk_base::Place;
@@ -76,3 +76,9 @@ fn is_place_before(a: Place, b: Place) -> bool
 {
     a.line < b.line || (a.line == b.line && a.column < b.column)
 }
+
+/// Of offences at most one is the first, and where there is none, none is the first. It does nothing.
+pub fn first_law()
+    ensures one { (xs : List Offence) (x y : Offence) → IsFirst xs x → IsFirst xs y → x ≡ y }
+    ensures none { (x : Offence) → IsFirst [] x → ⊥ }
+{}

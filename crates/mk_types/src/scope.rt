@@ -3,7 +3,8 @@
 ghost use Rattle.std.specs.Prelude.{◌≡◌, [], OnOk, bytes_eq};
 ghost use Rattle.std.specs.List.{list_any};
 ghost use Rattle.std.specs.Option.{option_copied};
-ghost use Rattle.mk_types.specs.Scope.{inside, outside, declared, is_loop, is_unknown};
+ghost use Rattle.mk_types.specs.Scope.{inside, declared, is_loop, is_unknown};
+ghost use Rattle.mk_types.specs.Outside.{outside};
 
 use crate::names::Names;
 use mk_ast::What;
