@@ -2,10 +2,22 @@
 //! values.
 #![tactic(auto)]
 
+ghost use Rattle.std.specs.Prelude.{◌≡◌};
+ghost use Rattle.mk_ssa.specs.Kinds.{is_public as public_by_kind};
+
 use mk_base::Items;
+use mk_field::AddMap;
+
+mod builder;
+mod evaluation;
+mod values;
+
+pub use builder::SsaBuilder;
+pub use evaluation::denote;
+pub use values::Ssa;
 
 /// An operand: a secret, a public input or an earlier value, each by its number from 0.
-#[derive(Clone, Copy, Debug, PartialEq, Eq)]
+#[derive(Clone, Copy, Debug, PartialEq, Eq, Hash)]
 pub enum Operand {
     Secret(u32),
     Public(u32),
@@ -13,7 +25,7 @@ pub enum Operand {
 }
 
 /// An operator with its operands. Maps are named by their numbers.
-#[derive(Clone, Copy, Debug, PartialEq, Eq)]
+#[derive(Clone, Copy, Debug, PartialEq, Eq, Hash)]
 pub enum Op {
     /// A public constant.
     Const { value: u8 },
@@ -43,8 +55,27 @@ pub enum Op {
     Refresh { arg: Operand },
 }
 
+impl Op {
+    /// Whether the value is public.
+    pub fn is_public(&self) -> bool
+        ensures { result ≡ public_by_kind self.now }
+    {
+        matches!(
+            self,
+            Op::Const { .. }
+                | Op::PubAdd { .. }
+                | Op::PubMul { .. }
+                | Op::PubSq { .. }
+                | Op::PubMap { .. }
+        )
+    }
+}
+
 /// A list of operators.
 pub type OpList = Items<Op>;
 
 /// A list of operands.
 pub type OperandList = Items<Operand>;
+
+/// A list of additive maps.
+pub type MapList = Items<AddMap>;
