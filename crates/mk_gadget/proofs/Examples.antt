@@ -1,10 +1,16 @@
--- The short refresh isn't strong, and the exchange of two shares isn't steady.
-use Rattle.std.proofs.Common.{arith, ◌≡◌, ◌≢◌, ◌⊎◌, ℕ, zero, suc, ◌+◌, ◌*◌, ◌<◌, ◌≤◌, List, [], ◌∷◌, ◌++◌, length, slice_index, inl, inr, refl, sym, ◌∙◌}
+-- The product of two bits with two shares is strong, the short refresh isn't, and the exchange of two shares
+-- isn't steady.
+use Rattle.std.proofs.Common.{arith, ◌≡◌, ◌≢◌, ◌⊎◌, ℕ, zero, suc, ◌+◌, ◌*◌, ◌<◌, ◌≤◌, List, [], ◌∷◌, ◌++◌, length, slice_index, inl, inr, refl, sym, ◌∙◌, subst}
 use Rattle.std.specs.List.{Contains}
 use Rattle.mk_field.specs.declared.field.FieldId.TheVariants.{Gf2}
 use Rattle.mk_code.specs.Counting.{AllBelow, Elements}
 use Rattle.mk_gadget.specs.Steady.{block_ways, IsSteady, IsStrong}
-use Rattle.mk_gadget.specs.Examples.{short_refresh, short_refresh-000, short_refresh-100, short_refresh-010, exchange, exchange-00, exchange-01}
+use Rattle.mk_gadget.specs.Examples.{bit_product, product_gadget-2, short_refresh, short_refresh-000, short_refresh-100, short_refresh-010, exchange, exchange-00, exchange-01}
+use Rattle.mk_gadget.proofs.ProductStrong.{product-strong}
+
+-- the product of two bits with two shares of each is strong
+pub bit_product-strong : IsStrong Gf2 [] 2 2 0 bit_product
+bit_product-strong = subst (IsStrong Gf2 [] 2 2 0) product_gadget-2 (product-strong Gf2 [] 2)
 
 -- the one number of a list
 only : (x i : ℕ) → x ≢ i → Contains (x ∷ []) i → ⊥

@@ -105,13 +105,13 @@ run-follows field maps count reads base (i ∷ is) tape u v below fit so =
     (subst (λ (n : ℕ). AllFit field count n is) left fit.1) (Follows-push reads base a b u v below so same))
 
 -- what the entries hold at a list of places
-observation-at : (reads entries : List ℕ) (q : ℕ) → q < length reads → slice_index (observation reads entries) q ≡ slice_index entries (slice_index reads q)
+pub observation-at : (reads entries : List ℕ) (q : ℕ) → q < length reads → slice_index (observation reads entries) q ≡ slice_index entries (slice_index reads q)
 observation-at [] entries q inside = absurd (omega (arith, inside))
 observation-at (r ∷ rs) entries zero inside = refl
 observation-at (r ∷ rs) entries (suc q) inside = observation-at rs entries q (omega (arith, inside))
 
 -- how many these are
-length-observation : (reads entries : List ℕ) → length (observation reads entries) ≡ length reads
+pub length-observation : (reads entries : List ℕ) → length (observation reads entries) ≡ length reads
 length-observation reads entries = length-map reads (λ p. slice_index entries p)
 
 -- the state holds the operands

@@ -76,7 +76,7 @@ same-at n m i first second publics below left right same q own = elim own [
 ]
 
 -- functions that agree at the numbers of a list make the same list of it
-map-same : (f g : ℕ → ℕ) (xs : List ℕ) → ((i : ℕ) → Contains xs i → f i ≡ g i) → map f xs ≡ map g xs
+pub map-same : (f g : ℕ → ℕ) (xs : List ℕ) → ((i : ℕ) → Contains xs i → f i ≡ g i) → map f xs ≡ map g xs
 map-same f g [] same = refl
 map-same f g (x ∷ xs) same =
     let here : f x ≡ g x = same x (0, omega arith, refl) in
@@ -84,7 +84,7 @@ map-same f g (x ∷ xs) same =
     cc
 
 -- an element of a list of numbers below n
-below-held : (n : ℕ) (xs : List ℕ) (i : ℕ) → AllBelow n xs → Contains xs i → i < n
+pub below-held : (n : ℕ) (xs : List ℕ) (i : ℕ) → AllBelow n xs → Contains xs i → i < n
 unfolding AllBelow
 below-held n [] i below held = absurd (omega (arith, held.1))
 below-held n (x ∷ xs) i below (zero, inside, here) = omega (arith, below.0, here)
@@ -157,7 +157,7 @@ rows-steady field maps j n m p b row base still own probes within =
     )
 
 -- no elements are the empty list
-nothing : (q : ℕ) (xs : List ℕ) → length xs ≡ 0 → xs ≡ []
+pub nothing : (q : ℕ) (xs : List ℕ) → length xs ≡ 0 → xs ≡ []
 nothing q [] none = refl
 nothing q (x ∷ xs) none = absurd (omega (arith, none))
 

@@ -1,11 +1,14 @@
 -- Small gadgets over bits and over bytes, and what an observer sees of them.
-use Rattle.std.specs.Prelude.{◌≡◌, ℕ, List, [], ◌∷◌, map, replicate, refl}
+use Rattle.std.specs.Prelude.{◌≡◌, ℕ, List, [], ◌∷◌, length, map, replicate, refl}
 use Rattle.mk_field.specs.declared.field.FieldId.TheVariants.{Gf2, Gf256}
 use Rattle.mk_field.specs.Field.{sum_bits}
 use Rattle.mk_code.specs.declared.instr.Instr.TheVariants.{Rnd, Copy, Add, Mul}
 use Rattle.mk_code.specs.Trace.{randoms, run}
 use Rattle.mk_code.specs.Counting.{sum_below, total, one_if_equal}
 use Rattle.mk_gadget.specs.Gadget.{Gadget, placed, placed_outs}
+use Rattle.mk_gadget.specs.Pairs.{pairs_upto, others}
+use Rattle.mk_gadget.specs.Refresh.{refresh_sum, refresh_gadget}
+use Rattle.mk_gadget.specs.Product.{product_gadget}
 use Rattle.mk_gadget.specs.Template.{public_addition, scaling}
 use Rattle.mk_gadget.specs.Steady.{block_ways}
 
@@ -109,3 +112,49 @@ public_addition-placed = refl
 -- which are its out bank
 pub public_addition-outs : placed_outs (5 ∷ 6 ∷ 2 ∷ []) 9 (public_addition 2) ≡ 9 ∷ 10 ∷ []
 public_addition-outs = refl
+
+-- the product with two shares
+pub product_gadget-2 : product_gadget 2 ≡ bit_product
+unfolding pairs_upto others
+product_gadget-2 = refl
+
+-- the refresh with three shares: nine instructions, of which three are random elements
+pub refresh_gadget-3 : refresh_gadget 3 ≡ record {
+  instrs = Rnd ∷ Add 0 3 ∷ Add 1 3 ∷ Rnd ∷ Add 4 6 ∷ Add 2 6 ∷ Rnd ∷ Add 5 9 ∷ Add 8 9 ∷ [];
+  outs = 7 ∷ 10 ∷ 11 ∷ [];
+}
+unfolding pairs_upto refresh_sum
+refresh_gadget-3 = refl
+
+-- the product with three shares: three pairs of five instructions, and three rows of three
+pub product_gadget-3 : product_gadget 3 ≡ record {
+  instrs = Rnd ∷ Mul 0 4 ∷ Add 6 7 ∷ Mul 1 3 ∷ Add 8 9
+      ∷ Rnd ∷ Mul 0 5 ∷ Add 11 12 ∷ Mul 2 3 ∷ Add 13 14
+      ∷ Rnd ∷ Mul 1 5 ∷ Add 16 17 ∷ Mul 2 4 ∷ Add 18 19
+      ∷ Mul 0 3 ∷ Add 21 6 ∷ Add 22 11
+      ∷ Mul 1 4 ∷ Add 24 10 ∷ Add 25 16
+      ∷ Mul 2 5 ∷ Add 27 15 ∷ Add 28 20 ∷ [];
+  outs = 23 ∷ 26 ∷ 29 ∷ [];
+}
+unfolding pairs_upto others
+product_gadget-3 = refl
+
+-- the product with nine shares: 36 pairs of five instructions, and nine rows of nine
+pub product_gadget-9 : length (product_gadget 9).instrs ≡ 261
+unfolding pairs_upto others
+product_gadget-9 = refl
+
+-- the refresh with nine shares: 36 pairs of three instructions
+pub refresh_gadget-9 : length (refresh_gadget 9).instrs ≡ 108
+unfolding pairs_upto refresh_sum
+refresh_gadget-9 = refl
+
+-- each pair takes a random element in the product
+pub product_gadget-9-randoms : randoms (product_gadget 9).instrs ≡ 36
+unfolding pairs_upto others randoms
+product_gadget-9-randoms = refl
+
+-- and in the refresh
+pub refresh_gadget-9-randoms : randoms (refresh_gadget 9).instrs ≡ 36
+unfolding pairs_upto refresh_sum randoms
+refresh_gadget-9-randoms = refl

@@ -1,6 +1,10 @@
 pub mod Gadget
+pub mod Pairs
+pub mod Refresh
+pub mod Product
 pub mod Template
 pub mod Emitted
 pub mod Steady
 pub mod PlacedLaw
+pub mod CostLaw
 pub mod Examples

@@ -6,6 +6,8 @@ use Rattle.mk_code.specs.declared.instr.Instr.TheVariants as instr
 use Rattle.mk_ssa.specs.declared.Op.{Op}
 use Rattle.mk_ssa.specs.declared.Op.TheVariants.{Const, PubAdd, PubMul, PubSq, PubMap, Lift, Add, AddPub, Scale, Sq, Map, Mul, Refresh}
 use Rattle.mk_gadget.specs.Gadget.{Gadget}
+use Rattle.mk_gadget.specs.Product.{product_gadget}
+use Rattle.mk_gadget.specs.Refresh.{refresh_gadget}
 
 -- a public value: one instruction behind p public operands
 abbrev pub single : ℕ → Instr → Gadget
@@ -54,3 +56,7 @@ template n product refresh (Sq arg) = squaring n
 template n product refresh (Map map arg) = mapping n map
 template n product refresh (Mul left right) = product
 template n product refresh (Refresh arg) = refresh
+
+-- with the product and the refresh that emitters append
+abbrev pub built_in : ℕ → Op → Gadget
+built_in n op = template n (product_gadget n) (refresh_gadget n) op

@@ -2,12 +2,18 @@
 //! a code in the making.
 #![tactic(auto)]
 
+#[cfg(test)]
+mod counted_tests;
 mod laws;
 #[cfg(test)]
 mod lifted_tests;
 mod linear;
 #[cfg(test)]
 mod linear_tests;
+mod strong;
+#[cfg(test)]
+mod strong_tests;
 
-pub use laws::{placed_law, steady_law};
+pub use laws::{cost_law, placed_law, steady_law, strong_law};
 pub use linear::{emit_add, emit_add_public, emit_lift, emit_map, emit_scale_public, emit_sq};
+pub use strong::{emit_mul, emit_refresh};

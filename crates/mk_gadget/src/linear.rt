@@ -16,7 +16,7 @@ use mk_field::Field;
 use mk_share::Bank;
 
 /// There are `N` places. It does nothing.
-fn count_law<const N: usize>(places: &[u32; N])
+pub(crate) fn count_law<const N: usize>(places: &[u32; N])
     ensures { length places.now ≡ N }
 {}
 

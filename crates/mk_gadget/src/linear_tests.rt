@@ -21,7 +21,7 @@ enum Linear {
 }
 
 /// The bank of the secret of this number.
-fn secret_bank<const N: usize>(number: u32) -> Bank<N>
+pub(crate) fn secret_bank<const N: usize>(number: u32) -> Bank<N>
     requires number { number ≤ 1 }
     requires most { N ≤ 9 }
     ensures { result.regs ≡ range_with_len (number * N) N }

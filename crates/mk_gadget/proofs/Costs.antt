@@ -1,0 +1,35 @@
+-- What the product and the refresh cost, by the number of pairs.
+use Rattle.std.proofs.Common.{arith, ◌≡◌, ℕ, zero, suc, ◌-◌, ◌*◌, ◌/◌, ◌≤◌, length, ap}
+use Rattle.std.proofs.lemmas.Nat.{mul-le}
+use Rattle.mk_gadget.specs.Pairs.{pairs}
+use Rattle.mk_gadget.specs.Product.{product_gadget}
+use Rattle.mk_gadget.specs.Refresh.{refresh_gadget}
+use Rattle.mk_gadget.specs.CostLaw.{CostLaw}
+use Rattle.mk_gadget.proofs.Pairs.{twice-pairs}
+use Rattle.mk_gadget.proofs.RefreshRun.{length-refresh, randoms-refresh}
+use Rattle.mk_gadget.proofs.ProductRows.{length-product, randoms-product}
+
+-- how many pairs there are
+pub count-pairs : (n : ℕ) → length (pairs n) ≡ n * (n - 1) / 2
+count-pairs zero = omega (arith, twice-pairs 0 0 (omega arith))
+count-pairs (suc m) =
+    let rest : suc m - 1 ≡ m = omega arith in
+    let less : suc m * (suc m - 1) ≡ suc m * m = ap (λ (k : ℕ). suc m * k) rest in
+    omega (arith, twice-pairs (suc m) (suc m) (omega arith), less)
+
+-- the law holds
+pub CostLaw-holds : (n : ℕ) → CostLaw n
+CostLaw-holds n = record {
+  product = omega (arith, length-product n, count-pairs n);
+  product_randoms = omega (arith, randoms-product n, count-pairs n);
+  refresh = omega (arith, length-refresh n, count-pairs n);
+  refresh_randoms = omega (arith, randoms-refresh n, count-pairs n);
+}
+
+-- with nine shares at most these are few
+pub nine-product : (n : ℕ) → n ≤ 9 → length (product_gadget n).instrs ≤ 486
+nine-product n le = omega (arith, length-product n, twice-pairs n n (omega arith), mul-le n n 9 9 le le)
+
+-- the refresh too
+pub nine-refresh : (n : ℕ) → n ≤ 9 → length (refresh_gadget n).instrs ≤ 486
+nine-refresh n le = omega (arith, length-refresh n, twice-pairs n n (omega arith), mul-le n n 9 9 le le)

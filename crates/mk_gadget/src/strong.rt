@@ -1,0 +1,155 @@
+//! Emitters of the refresh and of the product of two shared values.
+
+ghost use Rattle.std.specs.Prelude.{◌≡◌, ◌≢◌, ◌≤◌, ◌<◌, ◌+◌, ◌*◌, ◌^◌, ◌++◌, List, length, IfOk, OnErr};
+ghost use Rattle.mk_field.specs.declared.map.AddMap.{AddMap};
+ghost use Rattle.mk_field.specs.Field.{product};
+ghost use Rattle.mk_code.specs.Counting.{AllBelow};
+ghost use Rattle.mk_code.specs.Draft.{draft_len};
+ghost use Rattle.mk_gadget.specs.Emitted.{Emitted, Gives, shared_at};
+ghost use Rattle.mk_gadget.specs.Pairs.{pairs, pairs_upto};
+ghost use Rattle.mk_gadget.specs.Product.{product_gadget};
+ghost use Rattle.mk_gadget.specs.Product as places;
+ghost use Rattle.mk_gadget.specs.Refresh.{refresh_gadget};
+ghost use Rattle.mk_gadget.specs.Steady.{IsStrong};
+
+use crate::linear::count_law;
+use mk_base::Memory;
+use mk_code::{CodeBuilder, Instr};
+use mk_field::Field;
+use mk_share::Bank;
+
+/// One more entry is added to a sum.
+macro_rules! partial_sum {
+    ($builder:ident, $sum:expr, $entry:expr) => {
+        $sum = $builder.push(Instr::Add {
+            left: $sum,
+            right: $entry,
+        })
+    };
+}
+
+/// The cells of two shares: a random element, and its sum with both cross products.
+macro_rules! cross_products {
+    ($builder:ident, $x:ident, $y:ident, $i:ident, $j:ident) => {
+        let mut sum = $builder.push(Instr::Rnd);
+        let product = $builder.push(Instr::Mul {
+            left: $x.regs[$i],
+            right: $y.regs[$j],
+        });
+        partial_sum!($builder, sum, product);
+        let other = $builder.push(Instr::Mul {
+            left: $x.regs[$j],
+            right: $y.regs[$i],
+        });
+        partial_sum!($builder, sum, other);
+    };
+}
+
+/// How many pairs of `N` shares have their first before this share.
+fn pairs_before<const N: usize>(share: usize) -> usize
+    requires least { 2 ≤ N }
+    requires most { N ≤ 4096 }
+    requires share { share ≤ N }
+    ensures { result ≡ length (pairs_upto N share) }
+{
+    share * (2 * N - share - 1) / 2
+}
+
+/// The place of the first instruction of two shares, in a product whose first instruction has the place
+/// `first`.
+fn pair_place<const N: usize>(first: u32, low: usize, high: usize) -> u32
+    requires least { 2 ≤ N }
+    requires most { N ≤ 4096 }
+    requires order { low < high }
+    requires within { high < N }
+    requires fits { first + 5 * length (pairs N) < 2 ^ 32 }
+    ensures { 2 * N + result ≡ first + places.pair_place N low high }
+{
+    let pair = pairs_before::<N>(low) + (high - low - 1);
+    first + 5 * pair as u32
+}
+
+/// The place of a cell, in such a product.
+fn cell_place<const N: usize>(first: u32, row: usize, column: usize) -> u32
+    requires least { 2 ≤ N }
+    requires most { N ≤ 4096 }
+    requires row { row < N }
+    requires column { column < N }
+    requires other { row ≢ column }
+    requires fits { first + 5 * length (pairs N) < 2 ^ 32 }
+    ensures { 2 * N + result ≡ first + places.cell_place N row column }
+{
+    if row < column {
+        pair_place::<N>(first, row, column)
+    } else {
+        pair_place::<N>(first, column, row) + 4
+    }
+}
+
+/// Appends a refresh of a shared value, and answers its bank. After `Memory` the code is as before.
+pub fn emit_refresh<F: Field, const N: usize>(
+    builder: &mut CodeBuilder<F>,
+    x: &Bank<N>,
+) -> Result<Bank<N>, Memory>
+    requires least { 2 ≤ N }
+    requires order { builder.old.order + 1 ≡ N }
+    requires few { length builder.old.instrs + length (refresh_gadget N).instrs ≤ 8388608 }
+    requires shared { AllBelow (draft_len builder.old) x.now.regs }
+    ensures emitted { IfOk result (λ bank. Emitted builder.old builder.new x.now.regs (refresh_gadget N) bank.regs) }
+    ensures value { IfOk result (λ bank. Gives F.ID builder.old.maps N (draft_len builder.old) x.now.regs (refresh_gadget N) (λ entries. shared_at x.now.regs entries)) }
+    ensures strong { (maps : List AddMap) → IsStrong F.ID maps N 1 0 (refresh_gadget N) }
+    ensures memory { OnErr result (builder.new ≡ record builder.old { spare = builder.new.spare }) }
+{
+    count_law(&x.regs);
+    builder.reserve(3 * pairs_before::<N>(N) as u32)?;
+    let mut regs = x.regs;
+    for i in 0..N {
+        for j in i + 1..N {
+            let random = builder.push(Instr::Rnd);
+            partial_sum!(builder, regs[i], random);
+            partial_sum!(builder, regs[j], random);
+        }
+    }
+    Ok(Bank { regs })
+}
+
+/// Appends the product of two shared values, and answers its bank. After `Memory` the code is as before.
+pub fn emit_mul<F: Field, const N: usize>(
+    builder: &mut CodeBuilder<F>,
+    x: &Bank<N>,
+    y: &Bank<N>,
+) -> Result<Bank<N>, Memory>
+    requires least { 2 ≤ N }
+    requires order { builder.old.order + 1 ≡ N }
+    requires few { length builder.old.instrs + length (product_gadget N).instrs ≤ 8388608 }
+    requires left { AllBelow (draft_len builder.old) x.now.regs }
+    requires right { AllBelow (draft_len builder.old) y.now.regs }
+    ensures emitted { IfOk result (λ bank. Emitted builder.old builder.new (x.now.regs ++ y.now.regs) (product_gadget N) bank.regs) }
+    ensures value { IfOk result (λ bank. Gives F.ID builder.old.maps N (draft_len builder.old) (x.now.regs ++ y.now.regs) (product_gadget N) (λ entries. product F.ID (shared_at x.now.regs entries) (shared_at y.now.regs entries))) }
+    ensures strong { (maps : List AddMap) → IsStrong F.ID maps N 2 0 (product_gadget N) }
+    ensures memory { OnErr result (builder.new ≡ record builder.old { spare = builder.new.spare }) }
+{
+    count_law(&x.regs);
+    count_law(&y.regs);
+    builder.reserve(5 * pairs_before::<N>(N) as u32 + (N * N) as u32)?;
+    let first = builder.len();
+    for low in 0..N {
+        for high in low + 1..N {
+            cross_products!(builder, x, y, low, high);
+        }
+    }
+    let mut regs = [0; N];
+    for row in 0..N {
+        let mut sum = builder.push(Instr::Mul {
+            left: x.regs[row],
+            right: y.regs[row],
+        });
+        for column in 0..N {
+            if column != row {
+                partial_sum!(builder, sum, cell_place::<N>(first, row, column));
+            }
+        }
+        regs[row] = sum;
+    }
+    Ok(Bank { regs })
+}
