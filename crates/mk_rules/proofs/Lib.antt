@@ -4,3 +4,17 @@ pub mod Rows
 pub mod Claims
 pub mod Examples
 pub mod Prices
+pub mod Probes
+pub mod Blocks
+pub mod Needs
+pub mod Views
+pub mod Values
+pub mod Standing
+pub mod Agreeing
+pub mod Suffix
+pub mod Front
+pub mod Marks
+pub mod Asking
+pub mod Operators
+pub mod Accepted
+pub mod Worked

@@ -6,3 +6,4 @@ pub mod Accepts
 pub mod Places
 pub mod Sums
 pub mod Examples
+pub mod Privacy

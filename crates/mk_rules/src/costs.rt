@@ -1,10 +1,9 @@
-ghost use Rattle.std.specs.Prelude.{◌≡◌, ◌≢◌, ◌≤◌, ◌+◌, length};
+ghost use Rattle.std.specs.Prelude.{◌≡◌, ◌≤◌, ◌+◌, length};
 ghost use Rattle.mk_base.specs.declared.TheConstants.{TOP_ORDER};
 ghost use Rattle.mk_code.specs.Trace.{randoms};
-ghost use Rattle.mk_ssa.specs.Kinds.{Strong, kind};
-ghost use Rattle.mk_gadget.specs.Gadget.{Gadget};
-ghost use Rattle.mk_gadget.specs.Template.{template};
+ghost use Rattle.mk_gadget.specs.Template.{built_in};
 
+use mk_gadget::cost_law;
 use mk_ssa::Op;
 
 /// What a block costs: its instructions, and how many random elements they take.
@@ -14,23 +13,37 @@ pub struct Price {
     pub randoms: u32,
 }
 
-/// What a block of this operator costs at an order, where it is public or linear: one instruction, or
-/// one for each share, and no random element.
+/// What a block of this operator costs at an order.
 pub fn cost(op: &Op, order: u8) -> Price
-    requires kind { kind op.now ≢ Strong }
     requires order { (1 ≤ order) × (order ≤ TOP_ORDER) }
-    ensures instrs { (product refresh : Gadget) → result.instrs ≡ length (template (order + 1) product refresh op.now).instrs }
-    ensures randoms { (product refresh : Gadget) → result.randoms ≡ randoms (template (order + 1) product refresh op.now).instrs }
+    ensures instrs { result.instrs ≡ length (built_in (order + 1) op.now).instrs }
+    ensures randoms { result.randoms ≡ randoms (built_in (order + 1) op.now).instrs }
 {
-    let instrs = match op {
+    cost_law();
+    let shares = u32::from(order) + 1;
+    let pairs = shares * (shares - 1) / 2;
+    match op {
         Op::Const { .. }
         | Op::PubAdd { .. }
         | Op::PubMul { .. }
         | Op::PubSq { .. }
-        | Op::PubMap { .. } => 1,
-        _ => u32::from(order) + 1,
-    };
-    Price { instrs, randoms: 0 }
+        | Op::PubMap { .. } => Price {
+            instrs: 1,
+            randoms: 0,
+        },
+        Op::Mul { .. } => Price {
+            instrs: shares * shares + 5 * pairs,
+            randoms: pairs,
+        },
+        Op::Refresh { .. } => Price {
+            instrs: 3 * pairs,
+            randoms: pairs,
+        },
+        _ => Price {
+            instrs: shares,
+            randoms: 0,
+        },
+    }
 }
 
 #[cfg(test)]
@@ -88,5 +101,40 @@ mod tests {
         assert_eq!(rt; cost(&Op::Scale { left, right }, 8), nine);
         assert_eq!(rt; cost(&Op::Sq { arg: left }, 1), two);
         assert_eq!(rt; cost(&Op::Map { map: 0, arg: left }, 8), nine);
+    }
+
+    #[test]
+    fn a_product_and_a_refresh_take_a_random_element_for_each_pair(rt: HostRuntime) {
+        let left = Operand::Secret(0);
+        let product = Op::Mul { left, right: left };
+        let refresh = Op::Refresh { arg: left };
+        assert_eq!(rt;
+            cost(&product, 1),
+            Price {
+                instrs: 9,
+                randoms: 1
+            }
+        );
+        assert_eq!(rt;
+            cost(&product, 8),
+            Price {
+                instrs: 261,
+                randoms: 36
+            }
+        );
+        assert_eq!(rt;
+            cost(&refresh, 2),
+            Price {
+                instrs: 9,
+                randoms: 3
+            }
+        );
+        assert_eq!(rt;
+            cost(&refresh, 8),
+            Price {
+                instrs: 108,
+                randoms: 36
+            }
+        );
     }
 }
