@@ -1,0 +1,12 @@
+pub mod Unrolled
+pub mod ValueCounts
+pub mod Counted
+pub mod Walked
+pub mod Kept
+pub mod Numbers
+pub mod Joints
+pub mod Joining
+pub mod Running
+pub mod Beginning
+pub mod Causes
+pub mod Meant

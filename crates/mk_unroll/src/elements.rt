@@ -1,0 +1,37 @@
+//! The elements that declarations make.
+
+ghost use Rattle.std.specs.Prelude.{◌≡◌, ◌≤◌, true, length, option_to_list};
+ghost use Rattle.mk_types.specs.Elements.{size_of, elements_in, map_in};
+
+use mk_ast::What;
+
+/// How many elements a variable of this size has.
+pub(crate) fn size_of(size: Option<u32>) -> u32
+    ensures { result ≡ size_of size }
+{
+    match size {
+        None => 1,
+        Some(size) => size,
+    }
+}
+
+/// How many elements a declaration makes.
+pub(crate) fn elements_in(what: &What) -> u32
+    ensures { result ≡ elements_in (λ class. true) what.now }
+{
+    match what {
+        What::Map { .. } => 0,
+        What::Var { size, .. } => size_of(*size),
+    }
+}
+
+/// How many maps a declaration makes.
+pub(crate) fn maps_in(what: &What) -> u32
+    ensures maps { result ≡ length (option_to_list (map_in what.now)) }
+    ensures one { result ≤ 1 }
+{
+    match what {
+        What::Map { .. } => 1,
+        What::Var { .. } => 0,
+    }
+}
