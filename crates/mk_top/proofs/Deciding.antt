@@ -1,5 +1,6 @@
 -- The words ask for one command, and its input's bytes decide one answer.
-use Rattle.std.proofs.Common.{◌≡◌, ℕ, ◌+◌, ◌<◌, ◌≤◌, List, [], ◌∷◌, ◌++◌, Option, Some, None, length, inl, inr, refl, sym, ◌∙◌, ap, subst, arith, ◌⊎◌}
+use Rattle.std.proofs.Common.{◌≡◌, ℕ, ◌+◌, ◌<◌, ◌≤◌, List, [], ◌∷◌, ◌++◌, Option, Some, None, length, inl, inr, refl, sym, ◌∙◌, ap, subst, arith, ◌⊎◌, Ok, Err}
+use Rattle.std.specs.Prelude.{codes}
 use Rattle.std.proofs.lemmas.Bool.{cases_lt}
 use Rattle.std.proofs.lemmas.List.{append-nil}
 use Rattle.mk_base.specs.declared.Place.{Place}
@@ -10,11 +11,17 @@ use Rattle.mk_rules.proofs.Places.{FirstUnwired-not, FirstUnwired-only, FirstMis
 use Rattle.mk_rules.proofs.Claims.{FirstWrongOutput-not}
 use Rattle.mk_bundle.specs.Text.{text}
 use Rattle.mk_bundle.specs.Pairs.{IsPair, IsBundleText, NamesFirst, TextsDiffer}
-use Rattle.mk_top.specs.declared.command.Command.{Command}
-use Rattle.mk_top.specs.declared.command.Command.TheVariants.{Compile, Check}
+use Rattle.hex.specs.Hex.{decode_of}
+use Rattle.hex.specs.declared.error.FromHexError.TheVariants.{OddLength}
+use Rattle.hex.proofs.HexLemmas.{decode_of-same}
+use Rattle.mk_rules.specs.Sums.{AreSums}
 use Rattle.mk_top.specs.declared.fault.Fault.{Fault}
-use Rattle.mk_top.specs.declared.fault.Fault.TheVariants.{NotYet, Syntax, Unknown, Twice, Kind, AssignInput, MapForm, TooLong, Bundle, Tile, Operand, Output}
-use Rattle.mk_top.specs.Words.{Asks}
+use Rattle.mk_top.specs.declared.fault.Fault.TheVariants as fault
+use Rattle.mk_top.specs.declared.fault.SourceFault.{SourceFault}
+use Rattle.mk_top.specs.declared.fault.SourceFault.TheVariants as source
+use Rattle.mk_top.specs.declared.fault.CheckFault.{CheckFault}
+use Rattle.mk_top.specs.declared.fault.CheckFault.TheVariants as check
+use Rattle.mk_top.specs.Words.{Command, Compile, Check, Eval, SaysElements, Asks}
 use Rattle.mk_parse.proofs.Refusals.{one_place, one_program}
 use Rattle.mk_ast.specs.declared.tree.Program.{Program as Tree}
 use Rattle.mk_ast.specs.Spells.{Spells, IsRefusedAt}
@@ -25,8 +32,20 @@ use Rattle.mk_types.specs.First.{IsFirst}
 use Rattle.mk_types.specs.Offences.{offences, IsWellTyped}
 use Rattle.mk_types.proofs.Least.{first_one, none_first}
 use Rattle.mk_top.specs.declared.first.Program.{Program}
-use Rattle.mk_top.specs.First.{HasFirstForm, IsNoSource}
-use Rattle.mk_top.specs.Answers.{PairDecides, BundleDecides, SourceDecides, TextDecides, Decides, limit_of}
+use Rattle.mk_top.specs.First.{HasFirstForm}
+use Rattle.mk_top.specs.Sources.{IsNoSource}
+use Rattle.mk_top.specs.Answers.{IsAccepted, IsRefused, PairDecides, BundleDecides, SourceDecides, CompileDecides, EvalDecides, TextDecides, Decides, limit_of}
+
+-- `-` is no text of hexadecimal digits
+dash : (word xs : List ℕ) → word ≡ codes "-" → decode_of word ≡ Ok xs → ⊥
+dash word xs e ok = let odd : Ok xs ≡ Err OddLength = sym ok ∙ ap decode_of e in absurd cc
+
+-- a word says one list of elements
+says-one : (word xs ys : List ℕ) → SaysElements word xs → SaysElements word ys → xs ≡ ys
+says-one word xs ys (inl a) (inl b) = a.1 ∙ sym b.1
+says-one word xs ys (inl a) (inr b) = absurd (dash word ys a.0 b.1)
+says-one word xs ys (inr a) (inl b) = absurd (dash word xs b.0 a.1)
+says-one word xs ys (inr a) (inr b) = decode_of-same word xs ys a.1 b.1
 
 -- the words ask for one command
 pub asks-one : (words : List (List ℕ)) (a b : Command) → Asks words a → Asks words b → a ≡ b
@@ -37,106 +56,122 @@ asks-one words (Compile m) (Compile n) first second =
     let orders : m ≡ n = omega (arith, sums) in
     ap Compile orders
 asks-one words (Compile m) Check first second = let e = first.1 in let f = second in cc
+asks-one words (Compile m) (Eval ps ss) first second = let e = first.1 in let f = second.2 in cc
 asks-one words Check (Compile n) first second = let e = first in let f = second.1 in cc
 asks-one words Check Check first second = refl
+asks-one words Check (Eval ps ss) first second = let e = first in let f = second.2 in cc
+asks-one words (Eval ps ss) (Compile n) first second = let e = first.2 in let f = second.1 in cc
+asks-one words (Eval ps ss) Check first second = let e = first.2 in let f = second in cc
+asks-one words (Eval ps ss) (Eval qs ts) first second =
+    let one : first.0 ≡ second.0 = let e = first.2 in let f = second.2 in cc in
+    let two : first.1 ≡ second.1 = let e = first.2 in let f = second.2 in cc in
+    ap (λ (xs : List ℕ). Eval xs ss) (says-one second.0 ps qs (subst (λ (w : List ℕ). SaysElements w ps) one first.3) second.3)
+    ∙ ap (Eval qs) (says-one second.1 ss ts (subst (λ (w : List ℕ). SaysElements w ss) two first.4) second.4)
 
 -- any gadget, where none is used
 no_gadget : Gadget
 no_gadget = record { instrs = []; outs = [] }
 
+-- a code and certificate that are accepted are not refused
+accepted-not : (code : Listing) (cert : Claimed) (why : CheckFault) → AreSums cert.blocks → IsAccepted code cert → IsRefused code cert why → ⊥
+accepted-not code cert check.NotYet sums accepted why = why sums
+accepted-not code cert (check.Operand k) sums accepted why = FirstUnwired-not code cert.blocks k why.1 (accepted no_gadget no_gadget).wired
+accepted-not code cert (check.Tile k) sums accepted why = FirstMismatch-not _ _ k (why.2 no_gadget no_gadget) (accepted no_gadget no_gadget).tiles
+accepted-not code cert (check.Output k) sums accepted why =
+    FirstWrongOutput-not code no_gadget no_gadget cert.blocks cert.claims why.0 why.1 k (why.2 no_gadget no_gadget).1 (accepted no_gadget no_gadget).outputs
+
+-- they are refused for one reason
+refused-one : (code : Listing) (cert : Claimed) (a b : CheckFault) → IsRefused code cert a → IsRefused code cert b → a ≡ b
+refused-one code cert check.NotYet check.NotYet first second = refl
+refused-one code cert check.NotYet (check.Operand k) first second = absurd (first second.0)
+refused-one code cert check.NotYet (check.Tile k) first second = absurd (first second.0)
+refused-one code cert check.NotYet (check.Output k) first second = absurd (first second.0)
+refused-one code cert (check.Operand j) check.NotYet first second = absurd (second first.0)
+refused-one code cert (check.Operand j) (check.Operand k) first second = ap check.Operand (FirstUnwired-only code cert.blocks j k first.1 second.1)
+refused-one code cert (check.Operand j) (check.Tile k) first second = absurd (FirstUnwired-not code cert.blocks j first.1 second.1)
+refused-one code cert (check.Operand j) (check.Output k) first second = absurd (FirstUnwired-not code cert.blocks j first.1 second.1)
+refused-one code cert (check.Tile j) check.NotYet first second = absurd (second first.0)
+refused-one code cert (check.Tile j) (check.Operand k) first second = absurd (FirstUnwired-not code cert.blocks k second.1 first.1)
+refused-one code cert (check.Tile j) (check.Tile k) first second = ap check.Tile (FirstMismatch-only _ _ j k (first.2 no_gadget no_gadget) (second.2 no_gadget no_gadget))
+refused-one code cert (check.Tile j) (check.Output k) first second = absurd (FirstMismatch-not _ _ j (first.2 no_gadget no_gadget) (second.2 no_gadget no_gadget).0)
+refused-one code cert (check.Output j) check.NotYet first second = absurd (second first.0)
+refused-one code cert (check.Output j) (check.Operand k) first second = absurd (FirstUnwired-not code cert.blocks k second.1 first.1)
+refused-one code cert (check.Output j) (check.Tile k) first second = absurd (FirstMismatch-not _ _ k (second.2 no_gadget no_gadget) (first.2 no_gadget no_gadget).0)
+refused-one code cert (check.Output j) (check.Output k) first second =
+    ap check.Output (FirstWrongOutput-only code no_gadget no_gadget cert.blocks cert.claims j k (first.2 no_gadget no_gadget).1 (second.2 no_gadget no_gadget).1)
+
 -- a code and certificate decide one answer
 pair-one : (code : Listing) (cert : Claimed) (a b : Option Fault) → PairDecides code cert a → PairDecides code cert b → a ≡ b
 pair-one code cert None None first second = refl
-pair-one code cert None (Some NotYet) first second = absurd (second first.0)
-pair-one code cert None (Some (Operand k)) first second = absurd (FirstUnwired-not code cert.blocks k second.1 (first.1 no_gadget no_gadget).wired)
-pair-one code cert None (Some (Tile k)) first second = absurd (FirstMismatch-not _ _ k (second.2 no_gadget no_gadget) (first.1 no_gadget no_gadget).tiles)
-pair-one code cert None (Some (Output k)) first second =
-    absurd (FirstWrongOutput-not code no_gadget no_gadget cert.blocks cert.claims second.0 second.1 k (second.2 no_gadget no_gadget).1 (first.1 no_gadget no_gadget).outputs)
-pair-one code cert None (Some fault) first second = absurd second
-pair-one code cert (Some NotYet) None first second = absurd (first second.0)
-pair-one code cert (Some NotYet) (Some NotYet) first second = refl
-pair-one code cert (Some NotYet) (Some (Operand k)) first second = absurd (first second.0)
-pair-one code cert (Some NotYet) (Some (Tile k)) first second = absurd (first second.0)
-pair-one code cert (Some NotYet) (Some (Output k)) first second = absurd (first second.0)
-pair-one code cert (Some NotYet) (Some fault) first second = absurd second
-pair-one code cert (Some (Operand j)) None first second = absurd (FirstUnwired-not code cert.blocks j first.1 (second.1 no_gadget no_gadget).wired)
-pair-one code cert (Some (Operand j)) (Some NotYet) first second = absurd (second first.0)
-pair-one code cert (Some (Operand j)) (Some (Operand k)) first second = ap (λ (i : ℕ). Some (Operand i)) (FirstUnwired-only code cert.blocks j k first.1 second.1)
-pair-one code cert (Some (Operand j)) (Some (Tile k)) first second = absurd (FirstUnwired-not code cert.blocks j first.1 second.1)
-pair-one code cert (Some (Operand j)) (Some (Output k)) first second = absurd (FirstUnwired-not code cert.blocks j first.1 second.1)
-pair-one code cert (Some (Operand j)) (Some fault) first second = absurd second
-pair-one code cert (Some (Tile j)) None first second = absurd (FirstMismatch-not _ _ j (first.2 no_gadget no_gadget) (second.1 no_gadget no_gadget).tiles)
-pair-one code cert (Some (Tile j)) (Some NotYet) first second = absurd (second first.0)
-pair-one code cert (Some (Tile j)) (Some (Operand k)) first second = absurd (FirstUnwired-not code cert.blocks k second.1 first.1)
-pair-one code cert (Some (Tile j)) (Some (Tile k)) first second = ap (λ (i : ℕ). Some (Tile i)) (FirstMismatch-only _ _ j k (first.2 no_gadget no_gadget) (second.2 no_gadget no_gadget))
-pair-one code cert (Some (Tile j)) (Some (Output k)) first second = absurd (FirstMismatch-not _ _ j (first.2 no_gadget no_gadget) (second.2 no_gadget no_gadget).0)
-pair-one code cert (Some (Tile j)) (Some fault) first second = absurd second
-pair-one code cert (Some (Output j)) None first second =
-    absurd (FirstWrongOutput-not code no_gadget no_gadget cert.blocks cert.claims first.0 first.1 j (first.2 no_gadget no_gadget).1 (second.1 no_gadget no_gadget).outputs)
-pair-one code cert (Some (Output j)) (Some NotYet) first second = absurd (second first.0)
-pair-one code cert (Some (Output j)) (Some (Operand k)) first second = absurd (FirstUnwired-not code cert.blocks k second.1 first.1)
-pair-one code cert (Some (Output j)) (Some (Tile k)) first second = absurd (FirstMismatch-not _ _ k (second.2 no_gadget no_gadget) (first.2 no_gadget no_gadget).0)
-pair-one code cert (Some (Output j)) (Some (Output k)) first second = ap (λ (i : ℕ). Some (Output i)) (FirstWrongOutput-only code no_gadget no_gadget cert.blocks cert.claims j k (first.2 no_gadget no_gadget).1 (second.2 no_gadget no_gadget).1)
-pair-one code cert (Some (Output j)) (Some fault) first second = absurd second
-pair-one code cert (Some fault) b first second = absurd first
+pair-one code cert None (Some (fault.Check why)) first second = absurd (accepted-not code cert why first.0 first.1 second)
+pair-one code cert None (Some f) first second = absurd second
+pair-one code cert (Some (fault.Check why)) None first second = absurd (accepted-not code cert why second.0 second.1 first)
+pair-one code cert (Some (fault.Check why)) (Some (fault.Check other)) first second = ap (λ (w : CheckFault). Some (fault.Check w)) (refused-one code cert why other first second)
+pair-one code cert (Some (fault.Check why)) (Some f) first second = absurd second
+pair-one code cert (Some f) b first second = absurd first
 
 -- the fault of an offence
 abbrev fault_of_offence : Offence → Fault
-fault_of_offence x = by x.kind x.at
+fault_of_offence x = fault.Source (by x.kind x.at)
   where
-    by : OffenceKind → Place → Fault
-    by kind_.Unknown at = Unknown at
-    by kind_.Twice at = Twice at
-    by kind_.Kind at = Kind at
-    by kind_.AssignInput at = AssignInput at
-    by kind_.MapForm at = MapForm at
-
--- what a tree decides, by its offences and its form
-data TreeDecides (tree : Tree) (answer : Option Fault) : Type 0 where
-  formed : answer ≡ None → IsWellTyped tree → (p : Program) → HasFirstForm tree p → TreeDecides tree answer
-  other : answer ≡ Some NotYet → IsWellTyped tree → ((p : Program) → HasFirstForm tree p → ⊥) → TreeDecides tree answer
-  offends : (x : Offence) → answer ≡ Some (fault_of_offence x) → IsFirst (offences tree) x → TreeDecides tree answer
+    by : OffenceKind → Place → SourceFault
+    by kind_.Unknown at = source.Unknown at
+    by kind_.Twice at = source.Twice at
+    by kind_.Kind at = source.Kind at
+    by kind_.AssignInput at = source.AssignInput at
+    by kind_.MapForm at = source.MapForm at
 
 -- a well typed tree has no first offence
 typed-not : (tree : Tree) (x : Offence) → IsWellTyped tree → IsFirst (offences tree) x → ⊥
 typed-not tree x typed first = none_first x (subst (λ (xs : List Offence). IsFirst xs x) typed first)
 
--- a tree decides one answer
-tree-one : (tree : Tree) (a b : Option Fault) → TreeDecides tree a → TreeDecides tree b → a ≡ b
-tree-one tree a b (formed e typed p form) (formed f others q again) = e ∙ sym f
-tree-one tree a b (formed e typed p form) (other f others none) = absurd (none p form)
-tree-one tree a b (formed e typed p form) (offends y f first) = absurd (typed-not tree y typed first)
-tree-one tree a b (other e typed none) (formed f others q again) = absurd (none q again)
-tree-one tree a b (other e typed none) (other f others never) = e ∙ sym f
-tree-one tree a b (other e typed none) (offends y f first) = absurd (typed-not tree y typed first)
-tree-one tree a b (offends x e first) (formed f typed q again) = absurd (typed-not tree x typed first)
-tree-one tree a b (offends x e first) (other f typed never) = absurd (typed-not tree x typed first)
-tree-one tree a b (offends x e first) (offends y f second) =
-    e ∙ ap (λ (z : Offence). Some (fault_of_offence z)) (first_one (offences tree) x y first second) ∙ sym f
+-- a source goes wrong at a place, or spells a tree with a first offence, or a well typed one that decides
+data Sourced (decides : Tree → Option Fault → Type 0) (bytes : List ℕ) (answer : Option Fault) : Type 0 where
+  refused : (at : Place) → answer ≡ Some (fault.Source (source.Syntax at)) → IsRefusedAt bytes at → IsNoSource bytes → Sourced decides bytes answer
+  offends : (tree : Tree) (x : Offence) → Spells tree bytes → answer ≡ Some (fault_of_offence x) → IsFirst (offences tree) x → Sourced decides bytes answer
+  typed : (tree : Tree) → Spells tree bytes → IsWellTyped tree → decides tree answer → Sourced decides bytes answer
 
--- a source goes wrong at a place, or spells a tree
-data Sourced (bytes : List ℕ) (answer : Option Fault) : Type 0 where
-  refused : (at : Place) → answer ≡ Some (Syntax at) → IsRefusedAt bytes at → IsNoSource bytes → Sourced bytes answer
-  spelled : (tree : Tree) → Spells tree bytes → TreeDecides tree answer → Sourced bytes answer
+module _ (decides : Tree → Option Fault → Type 0) (bytes : List ℕ) where
+  sourced : (answer : Option Fault) → SourceDecides decides bytes answer → Sourced decides bytes answer
+  sourced (Some (fault.Source (source.Syntax at))) d = refused at refl d.0 d.1
+  sourced (Some (fault.Source (source.Unknown at))) d = offends d.0 (record { at = at; kind = kind_.Unknown }) d.1 refl d.2
+  sourced (Some (fault.Source (source.Twice at))) d = offends d.0 (record { at = at; kind = kind_.Twice }) d.1 refl d.2
+  sourced (Some (fault.Source (source.Kind at))) d = offends d.0 (record { at = at; kind = kind_.Kind }) d.1 refl d.2
+  sourced (Some (fault.Source (source.AssignInput at))) d = offends d.0 (record { at = at; kind = kind_.AssignInput }) d.1 refl d.2
+  sourced (Some (fault.Source (source.MapForm at))) d = offends d.0 (record { at = at; kind = kind_.MapForm }) d.1 refl d.2
+  sourced answer d = typed d.0 d.1 d.2 d.3
 
-sourced : (bytes : List ℕ) (answer : Option Fault) → SourceDecides bytes answer → Sourced bytes answer
-sourced bytes None d = spelled d.0 d.1 (formed refl d.2 d.3.0 d.3.1)
-sourced bytes (Some NotYet) d = spelled d.tree d.spelled (other refl d.typed (d.other d.tree d.spelled))
-sourced bytes (Some (Syntax at)) d = refused at refl d.0 d.1
-sourced bytes (Some (Unknown at)) d = spelled d.0 d.1 (offends (record { at = at; kind = kind_.Unknown }) refl d.2)
-sourced bytes (Some (Twice at)) d = spelled d.0 d.1 (offends (record { at = at; kind = kind_.Twice }) refl d.2)
-sourced bytes (Some (Kind at)) d = spelled d.0 d.1 (offends (record { at = at; kind = kind_.Kind }) refl d.2)
-sourced bytes (Some (AssignInput at)) d = spelled d.0 d.1 (offends (record { at = at; kind = kind_.AssignInput }) refl d.2)
-sourced bytes (Some (MapForm at)) d = spelled d.0 d.1 (offends (record { at = at; kind = kind_.MapForm }) refl d.2)
-sourced bytes (Some fault) d = absurd d
+  -- a source decides one answer, where a well typed tree does
+  source-one : ((tree : Tree) (a b : Option Fault) → decides tree a → decides tree b → a ≡ b)
+      → (a b : Option Fault) → Sourced decides bytes a → Sourced decides bytes b → a ≡ b
+  source-one one a b (refused at e first none) (refused place f second never) = e ∙ ap (λ (p : Place). Some (fault.Source (source.Syntax p))) (one_place at place bytes first second) ∙ sym f
+  source-one one a b (refused at e first none) (offends tree x is f second) = absurd (none tree is)
+  source-one one a b (refused at e first none) (typed tree is well d) = absurd (none tree is)
+  source-one one a b (offends tree x is e first) (refused place f second never) = absurd (never tree is)
+  source-one one a b (offends tree x is e first) (offends again y are f second) =
+      e ∙ ap (λ (z : Offence). Some (fault_of_offence z))
+      (first_one (offences again) x y (subst (λ (t : Tree). IsFirst (offences t) x) (one_program tree again bytes is are) first) second) ∙ sym f
+  source-one one a b (offends tree x is e first) (typed again are well d) =
+      absurd (typed-not again x well (subst (λ (t : Tree). IsFirst (offences t) x) (one_program tree again bytes is are) first))
+  source-one one a b (typed tree is well d) (refused place f second never) = absurd (never tree is)
+  source-one one a b (typed tree is well d) (offends again y are f second) =
+      absurd (typed-not again y (subst IsWellTyped (one_program tree again bytes is are) well) second)
+  source-one one a b (typed tree is well d) (typed again are good c) =
+      one again a b (subst (λ (t : Tree). decides t a) (one_program tree again bytes is are) d) c
 
--- a source decides one answer
-source-one : (bytes : List ℕ) (a b : Option Fault) → Sourced bytes a → Sourced bytes b → a ≡ b
-source-one bytes a b (refused at e first none) (refused place f second never) = e ∙ ap (λ (p : Place). Some (Syntax p)) (one_place at place bytes first second) ∙ sym f
-source-one bytes a b (refused at e first none) (spelled tree is decides) = absurd (none tree is)
-source-one bytes a b (spelled tree is decides) (refused place f second never) = absurd (never tree is)
-source-one bytes a b (spelled tree is decides) (spelled again are others) =
-    tree-one again a b (subst (λ (t : Tree). TreeDecides t a) (one_program tree again bytes is are) decides) others
+-- a well typed tree decides one answer under `compile`
+compile-one : (tree : Tree) (a b : Option Fault) → CompileDecides tree a → CompileDecides tree b → a ≡ b
+compile-one tree None None first second = refl
+compile-one tree None (Some (fault.Source source.NotYet)) first second = absurd (second first.0 first.1)
+compile-one tree None (Some f) first second = absurd second
+compile-one tree (Some (fault.Source source.NotYet)) None first second = absurd (first second.0 second.1)
+compile-one tree (Some (fault.Source source.NotYet)) (Some (fault.Source source.NotYet)) first second = refl
+compile-one tree (Some (fault.Source source.NotYet)) (Some f) first second = absurd second
+compile-one tree (Some f) b first second = absurd first
+
+-- and under `eval`
+eval-one : (publics secrets : List ℕ) (tree : Tree) (a b : Option Fault) → EvalDecides publics secrets tree a → EvalDecides publics secrets tree b → a ≡ b
+eval-one publics secrets tree a b first second = first ∙ sym second
 
 -- the line that is named is one
 names-one : (bytes : List ℕ) (m n : ℕ) → NamesFirst m bytes → NamesFirst n bytes → m ≡ n
@@ -159,17 +194,17 @@ record Pair (bytes : List ℕ) (answer : Option Fault) : Type 0 where
 
 -- a bundle text goes wrong at a line, or is that of a pair
 data Bundled (bytes : List ℕ) (answer : Option Fault) : Type 0 where
-  wrong : (line : ℕ) → answer ≡ Some (Bundle line) → NamesFirst line bytes → (IsBundleText bytes → ⊥) → Bundled bytes answer
+  wrong : (line : ℕ) → answer ≡ Some (fault.Bundle line) → NamesFirst line bytes → (IsBundleText bytes → ⊥) → Bundled bytes answer
   paired : Pair bytes answer → Bundled bytes answer
 
 bundled : (bytes : List ℕ) (answer : Option Fault) → BundleDecides bytes answer → Bundled bytes answer
-bundled bytes (Some (Bundle line)) d = wrong line refl d.0 d.1
+bundled bytes (Some (fault.Bundle line)) d = wrong line refl d.0 d.1
 bundled bytes answer d = paired (record { code = d.0; cert = d.1; pair = d.2; bytes_are = d.3; decides = d.4 })
 
 -- the input is too long, or its bytes within the limit decide
 within-or-long : (command : Command) (bytes : List ℕ) (answer : Option Fault) → Decides command bytes answer
-    → ((answer ≡ Some (TooLong (limit_of command))) × (limit_of command < length bytes)) ⊎ ((length bytes ≤ limit_of command) × TextDecides command bytes answer)
-within-or-long command bytes (Some (TooLong limit)) d = inl (ap (λ (l : ℕ). Some (TooLong l)) d.0, subst (λ (l : ℕ). l < length bytes) d.0 d.1)
+    → ((answer ≡ Some (fault.TooLong (limit_of command))) × (limit_of command < length bytes)) ⊎ ((length bytes ≤ limit_of command) × TextDecides command bytes answer)
+within-or-long command bytes (Some (fault.TooLong limit)) d = inl (ap (λ (l : ℕ). Some (fault.TooLong l)) d.0, subst (λ (l : ℕ). l < length bytes) d.0 d.1)
 within-or-long command bytes answer d = inr d
 
 module _ (differ : TextsDiffer) where
@@ -185,15 +220,18 @@ module _ (differ : TextsDiffer) where
 
   -- a bundle text decides one answer
   bundle-one : (bytes : List ℕ) (a b : Option Fault) → Bundled bytes a → Bundled bytes b → a ≡ b
-  bundle-one bytes a b (wrong m e names none) (wrong n f others never) = e ∙ ap (λ (l : ℕ). Some (Bundle l)) (names-one bytes m n names others) ∙ sym f
+  bundle-one bytes a b (wrong m e names none) (wrong n f others never) = e ∙ ap (λ (l : ℕ). Some (fault.Bundle l)) (names-one bytes m n names others) ∙ sym f
   bundle-one bytes a b (wrong m e names none) (paired p) = absurd (none (p.code, p.cert, p.pair, p.bytes_are))
   bundle-one bytes a b (paired p) (wrong n f others never) = absurd (never (p.code, p.cert, p.pair, p.bytes_are))
   bundle-one bytes a b (paired p) (paired q) = pairs-one bytes a b p q
 
   -- the text that a command reads decides one answer
   text-one : (command : Command) (bytes : List ℕ) (a b : Option Fault) → TextDecides command bytes a → TextDecides command bytes b → a ≡ b
-  text-one (Compile order) bytes a b first second = source-one bytes a b (sourced bytes a first) (sourced bytes b second)
+  text-one (Compile order) bytes a b first second =
+      source-one CompileDecides bytes compile-one a b (sourced CompileDecides bytes a first) (sourced CompileDecides bytes b second)
   text-one Check bytes a b first second = bundle-one bytes a b (bundled bytes a first) (bundled bytes b second)
+  text-one (Eval ps ss) bytes a b first second =
+      source-one (EvalDecides ps ss) bytes (eval-one ps ss) a b (sourced (EvalDecides ps ss) bytes a first) (sourced (EvalDecides ps ss) bytes b second)
 
   -- the input of a command decides one answer
   pub decides-one : (command : Command) (bytes : List ℕ) (a b : Option Fault) → Decides command bytes a → Decides command bytes b → a ≡ b

@@ -1,24 +1,26 @@
 -- How a run ends, by its words, its input's bytes and the counts of faults.
-use Rattle.std.proofs.Common.{◌≡◌, ℕ, ◌≤◌, List, Option, Some, None, IfSome, length, inl, inr, refl, ap, subst}
+use Rattle.std.proofs.Common.{◌≡◌, ℕ, ◌≤◌, List, [], ◌∷◌, Option, Some, None, IfSome, Result, Ok, Err, IfErr, OnOk, length, inl, inr, refl, ap, sym, subst}
+use Rattle.std.specs.Prelude.{option_map, codes}
 use Rattle.mk_base.specs.Outside.{Rose}
 use Rattle.mk_bundle.specs.Pairs.{TextsDiffer}
-use Rattle.mk_top.specs.declared.command.Command.{Command}
-use Rattle.mk_top.specs.declared.command.Command.TheVariants.{Compile, Check}
 use Rattle.mk_top.specs.declared.status.Status.TheVariants as status
 use Rattle.mk_top.specs.declared.fault.Fault.{Fault}
-use Rattle.mk_top.specs.declared.fault.Fault.TheVariants.{Words, NotYet, Syntax, Unknown, Twice, Kind, AssignInput, MapForm, ReadFault, WriteFault, Memory, TooLong, Bundle, Tile, Operand, Output}
-use Rattle.mk_top.specs.Words.{Asks}
-use Rattle.mk_top.specs.Faults.{status_of}
-use Rattle.mk_top.specs.Answers.{ReadWhole, Makes, Decides, TextDecides, Because, IsOrMemory, answer_status, limit_of}
+use Rattle.mk_top.specs.declared.fault.Fault.TheVariants as fault_
+use Rattle.mk_top.specs.Words.{Command, Compile, Check, Eval, Asks}
+use Rattle.mk_top.specs.Forms.{OfElements}
+use Rattle.mk_top.specs.Faults.{fault_of_eval, status_of}
+use Rattle.mk_top.specs.Answers.{ReadWhole, Makes, Decides, TextDecides, Because, TakesWhole, TakesSome, IsOrMemory, answer_status, limit_of}
 use Rattle.mk_top.specs.Running.{Finished, StoppedAt, Stopped}
 use Rattle.mk_top.proofs.Deciding.{asks-one, decides-one}
 
 -- what a command makes of its input decides that there is no fault
 makes-decides : (command : Command) (bytes written : List ℕ) → Makes command (Some bytes) written → length bytes ≤ limit_of command → Decides command bytes None
 makes-decides (Compile order) bytes written makes within =
-    (within, (makes.source.tree, makes.source.spelled.spelled, makes.source.typed, (makes.program, makes.source.form)))
+    (within, (makes.tree, makes.source.spelled.spelled, makes.source.typed, (makes.program, makes.form)))
 makes-decides Check bytes written makes within =
     (within, (makes.0.code, makes.0.cert, makes.0.pair, makes.0.bundle, (makes.0.sums, makes.0.accepted)))
+makes-decides (Eval ps ss) bytes written makes within =
+    (within, (makes.tree, makes.source.spelled.spelled, makes.source.typed, sym (ap (option_map fault_of_eval) makes.taken)))
 
 module _ (words : List (List ℕ)) (given after : Option (List ℕ)) (reads then_reads : ℕ) (before taken : Option (List ℕ)) (writes then_writes : ℕ) where
   -- a run that stopped under words that ask for a command stopped at this command
@@ -32,7 +34,7 @@ module _ (words : List (List ℕ)) (given after : Option (List ℕ)) (reads then
           subst (λ (k : Command). StoppedAt k given after reads then_reads before taken writes then_writes f) (asks-one words other command asked asks) at
 
       go : (f : Fault) → Stopped words given after reads then_reads before taken writes then_writes f → StoppedAt command given after reads then_reads before taken writes then_writes f
-      go Words s = absurd (s command asks)
+      go fault_.Words s = absurd (s command asks)
       go f s = moved f s.0 s.1 s.2
 
 -- a command that was carried out is the one that the words ask for
@@ -50,33 +52,53 @@ within-decides command (Some bytes) after P read holds = (read.0, holds)
 -- why a command stopped, by its cause
 pub stopped-because : (command : Command) (given after : Option (List ℕ)) (reads then_reads : ℕ) (before taken : Option (List ℕ)) (writes then_writes : ℕ) (fault : Fault)
     → StoppedAt command given after reads then_reads before taken writes then_writes fault → Because command given after reads then_reads writes then_writes fault
-stopped-because command given after reads then_reads before taken writes then_writes Words s = absurd s
-stopped-because command given after reads then_reads before taken writes then_writes NotYet s =
-    within-decides command given after (λ bs. TextDecides command bs (Some NotYet)) s.1 s.0
-stopped-because command given after reads then_reads before taken writes then_writes (Syntax at) s =
-    within-decides command given after (λ bs. TextDecides command bs (Some (Syntax at))) s.1 s.0
-stopped-because command given after reads then_reads before taken writes then_writes (Unknown at) s =
-    within-decides command given after (λ bs. TextDecides command bs (Some (Unknown at))) s.1 s.0
-stopped-because command given after reads then_reads before taken writes then_writes (Twice at) s =
-    within-decides command given after (λ bs. TextDecides command bs (Some (Twice at))) s.1 s.0
-stopped-because command given after reads then_reads before taken writes then_writes (Kind at) s =
-    within-decides command given after (λ bs. TextDecides command bs (Some (Kind at))) s.1 s.0
-stopped-because command given after reads then_reads before taken writes then_writes (AssignInput at) s =
-    within-decides command given after (λ bs. TextDecides command bs (Some (AssignInput at))) s.1 s.0
-stopped-because command given after reads then_reads before taken writes then_writes (MapForm at) s =
-    within-decides command given after (λ bs. TextDecides command bs (Some (MapForm at))) s.1 s.0
-stopped-because command given after reads then_reads before taken writes then_writes ReadFault s = s
-stopped-because command given after reads then_reads before taken writes then_writes WriteFault s = s.rose
-stopped-because command given after reads then_reads before taken writes then_writes Memory s = tt
-stopped-because command given after reads then_reads before taken writes then_writes (TooLong at) s = s
-stopped-because command given after reads then_reads before taken writes then_writes (Bundle line) s =
-    within-decides command given after (λ bs. TextDecides command bs (Some (Bundle line))) s.1 s.0
-stopped-because command given after reads then_reads before taken writes then_writes (Tile instr) s =
-    within-decides command given after (λ bs. TextDecides command bs (Some (Tile instr))) s.1 s.0
-stopped-because command given after reads then_reads before taken writes then_writes (Operand block) s =
-    within-decides command given after (λ bs. TextDecides command bs (Some (Operand block))) s.1 s.0
-stopped-because command given after reads then_reads before taken writes then_writes (Output index) s =
-    within-decides command given after (λ bs. TextDecides command bs (Some (Output index))) s.1 s.0
+stopped-because command given after reads then_reads before taken writes then_writes fault_.Words s = absurd s
+stopped-because command given after reads then_reads before taken writes then_writes (fault_.Source why) s =
+    within-decides command given after (λ bs. TextDecides command bs (Some (fault_.Source why))) s.1 s.0
+stopped-because command given after reads then_reads before taken writes then_writes (fault_.Inputs why) s =
+    within-decides command given after (λ bs. TextDecides command bs (Some (fault_.Inputs why))) s.1 s.0
+stopped-because command given after reads then_reads before taken writes then_writes (fault_.Check why) s =
+    within-decides command given after (λ bs. TextDecides command bs (Some (fault_.Check why))) s.1 s.0
+stopped-because command given after reads then_reads before taken writes then_writes (fault_.Bundle line) s =
+    within-decides command given after (λ bs. TextDecides command bs (Some (fault_.Bundle line))) s.1 s.0
+stopped-because command given after reads then_reads before taken writes then_writes fault_.ReadFault s = s
+stopped-because command given after reads then_reads before taken writes then_writes fault_.WriteFault s = s.rose
+stopped-because command given after reads then_reads before taken writes then_writes fault_.Memory s = tt
+stopped-because command given after reads then_reads before taken writes then_writes (fault_.TooLong at) s = s
+
+-- a command whose text was put is finished where it was put whole
+pub put-finished : (command : Command) (given after before taken : Option (List ℕ)) (written : List ℕ) (r : Result (Unit {0}) Fault)
+    → ReadWhole (limit_of command) given after → Makes command given written → OnOk r (TakesWhole before written taken) → OnOk r (Finished command given after before taken)
+put-finished command given after before taken written (Ok done) read makes whole = record { read = read; written = written; makes = makes; whole = whole }
+put-finished command given after before taken written (Err fault) read makes whole = tt
+
+-- and stopped where the output failed
+pub put-stopped : (command : Command) (given after : Option (List ℕ)) (reads then_reads : ℕ) (before taken : Option (List ℕ)) (writes then_writes : ℕ) (written : List ℕ) (r : Result (Unit {0}) Fault)
+    → ReadWhole (limit_of command) given after → Makes command given written → IfErr r (λ fault. fault ≡ fault_.WriteFault)
+    → IfErr r (λ fault. TakesSome before written taken) → IfErr r (λ fault. Rose writes then_writes)
+    → IfErr r (StoppedAt command given after reads then_reads before taken writes then_writes)
+put-stopped command given after reads then_reads before taken writes then_writes written (Ok done) read makes is some rose = tt
+put-stopped command given after reads then_reads before taken writes then_writes written (Err fault) read makes is some rose =
+    subst (StoppedAt command given after reads then_reads before taken writes then_writes) (sym is)
+    (record { read = read; written = written; makes = makes; some = some; rose = rose })
+
+-- a command that was asked for and stopped is a run that stopped
+pub stopped-asked : (words : List (List ℕ)) (command : Command) (given after : Option (List ℕ)) (reads then_reads : ℕ) (before taken : Option (List ℕ)) (writes then_writes : ℕ) (r : Result (Unit {0}) Fault)
+    → Asks words command → IfErr r (StoppedAt command given after reads then_reads before taken writes then_writes)
+    → IfErr r (Stopped words given after reads then_reads before taken writes then_writes)
+stopped-asked words command given after reads then_reads before taken writes then_writes (Ok done) asks stopped = tt
+stopped-asked words command given after reads then_reads before taken writes then_writes (Err fault_.Words) asks stopped = absurd stopped
+stopped-asked words command given after reads then_reads before taken writes then_writes (Err fault) asks stopped = (command, asks, stopped)
+
+-- and so is an evaluation on the elements that the words say
+pub stopped-evaluated : (words : List (List ℕ)) (first second : List ℕ) (given after : Option (List ℕ)) (reads then_reads : ℕ) (before taken : Option (List ℕ)) (writes then_writes : ℕ) (r : Result (Unit {0}) Fault)
+    → words ≡ codes "eval" ∷ first ∷ second ∷ []
+    → IfErr r (λ fault. OfElements first second (λ command. StoppedAt command given after reads then_reads before taken writes then_writes fault))
+    → IfErr r (Stopped words given after reads then_reads before taken writes then_writes)
+stopped-evaluated words first second given after reads then_reads before taken writes then_writes (Ok done) asks stopped = tt
+stopped-evaluated words first second given after reads then_reads before taken writes then_writes (Err fault) asks stopped =
+    stopped-asked words (Eval stopped.0 stopped.1) given after reads then_reads before taken writes then_writes (Err fault)
+    (first, second, asks, stopped.2, stopped.3) stopped.4
 
 module _ (differ : TextsDiffer) where
   -- a fault other than want of memory is the one that the bytes decide
@@ -95,23 +117,16 @@ module _ (differ : TextsDiffer) where
     where
       go : (f : Fault) → StoppedAt command (Some bytes) after reads then_reads before taken writes then_writes f → Decides command bytes answer
           → IsOrMemory (status_of f) (answer_status answer)
-      go Words s decides = absurd s
-      go NotYet s decides = decided-fault command bytes NotYet answer (s.1.0, s.0) decides
-      go (Syntax at) s decides = decided-fault command bytes (Syntax at) answer (s.1.0, s.0) decides
-      go (Unknown at) s decides = decided-fault command bytes (Unknown at) answer (s.1.0, s.0) decides
-      go (Twice at) s decides = decided-fault command bytes (Twice at) answer (s.1.0, s.0) decides
-      go (Kind at) s decides = decided-fault command bytes (Kind at) answer (s.1.0, s.0) decides
-      go (AssignInput at) s decides = decided-fault command bytes (AssignInput at) answer (s.1.0, s.0) decides
-      go (MapForm at) s decides = decided-fault command bytes (MapForm at) answer (s.1.0, s.0) decides
-      go ReadFault s decides = absurd (calm s.0)
-      go WriteFault s decides =
+      go fault_.Words s decides = absurd s
+      go (fault_.Source why) s decides = decided-fault command bytes (fault_.Source why) answer (s.1.0, s.0) decides
+      go (fault_.Inputs why) s decides = decided-fault command bytes (fault_.Inputs why) answer (s.1.0, s.0) decides
+      go (fault_.Check why) s decides = decided-fault command bytes (fault_.Check why) answer (s.1.0, s.0) decides
+      go (fault_.Bundle line) s decides = decided-fault command bytes (fault_.Bundle line) answer (s.1.0, s.0) decides
+      go fault_.ReadFault s decides = absurd (calm s.0)
+      go fault_.WriteFault s decides =
           absurd (still (decides-one differ command bytes answer None decides (makes-decides command bytes s.written s.makes s.read.0)) s.rose)
-      go Memory s decides = inr refl
-      go (TooLong at) s decides = decided-fault command bytes (TooLong at) answer s decides
-      go (Bundle line) s decides = decided-fault command bytes (Bundle line) answer (s.1.0, s.0) decides
-      go (Tile instr) s decides = decided-fault command bytes (Tile instr) answer (s.1.0, s.0) decides
-      go (Operand block) s decides = decided-fault command bytes (Operand block) answer (s.1.0, s.0) decides
-      go (Output index) s decides = decided-fault command bytes (Output index) answer (s.1.0, s.0) decides
+      go fault_.Memory s decides = inr refl
+      go (fault_.TooLong at) s decides = decided-fault command bytes (fault_.TooLong at) answer s decides
 
   -- a command that was carried out answers what its bytes decide
   pub finished-decided : (words : List (List ℕ)) (command : Command) (given after before taken : Option (List ℕ)) (answer : Option Fault)

@@ -1,23 +1,35 @@
 -- What was made of a text, said of the bytes that the input gave.
-use Rattle.std.proofs.Common.{ℕ, ◌≤◌, List, Option, Some, None, Result, Ok, Err, IfOk, IfErr, IfSome, OnOk, length, subst, sym, ◌∙◌}
+use Rattle.std.proofs.Common.{◌≡◌, ℕ, ◌≤◌, List, Option, Some, None, Result, Ok, Err, IfOk, IfErr, IfSome, OnOk, length, subst, sym, ap, ◌∙◌, ◌⊎◌, inl, inr}
+use Rattle.std.specs.Prelude.{option_map}
 use Rattle.mk_base.specs.Streams.{ReadsAll}
-use Rattle.mk_top.specs.declared.command.Command.{Command}
-use Rattle.mk_top.specs.declared.command.Command.TheVariants.{Compile, Check}
 use Rattle.mk_top.specs.declared.fault.Fault.{Fault}
-use Rattle.mk_top.specs.declared.fault.Fault.TheVariants.{Words, NotYet, Syntax, Unknown, Twice, Kind, AssignInput, MapForm, ReadFault, WriteFault, Memory, TooLong, Bundle, Tile, Operand, Output}
-use Rattle.mk_top.specs.Answers.{ReadWhole, Compiles, Checks, limit_of, TextDecides, IsAnswerOf}
-use Rattle.mk_top.specs.First.{IsSourceOf}
-use Rattle.mk_top.specs.Faults.{status_of}
+use Rattle.mk_top.specs.declared.fault.Fault.TheVariants as fault_
+use Rattle.mk_top.specs.declared.fault.SourceFault.TheVariants as source
+use Rattle.mk_top.specs.declared.fault.CheckFault.TheVariants as check
+use Rattle.mk_top.specs.Words.{Command, Compile, Check, Eval}
+use Rattle.mk_top.specs.Answers.{ReadWhole, Compiles, Checks, Evaluates, limit_of, TextDecides, IsAnswerOf}
+use Rattle.mk_top.specs.Sources.{IsSourceOf}
+use Rattle.mk_eval.specs.declared.refusal.EvalRefusal.{EvalRefusal}
+use Rattle.mk_eval.specs.declared.refusal.EvalRefusal.TheVariants as eval
+use Rattle.mk_eval.specs.Refusals.{refusal}
+use Rattle.mk_ast.specs.declared.tree.Program.{Program as Tree}
+use Rattle.mk_ast.specs.declared.refusal.SourceRefusal.{SourceRefusal}
+use Rattle.mk_ast.specs.declared.refusal.SourceRefusal.TheVariants as refused
+use Rattle.mk_top.specs.Reading.{IsFormRefusal}
+use Rattle.mk_top.specs.Faults.{fault_of_source, fault_of_eval, status_of}
 use Rattle.mk_top.specs.Running.{NotMade, NoText}
 
 -- the source that was read is the one that was given
 compiles-given : (given after : Option (List ℕ)) (bytes written : List ℕ) (order : ℕ)
     → IfSome given (λ rest. ReadsAll rest bytes after) → Compiles order (Some bytes) written → Compiles order given written
 compiles-given None after bytes written order read c = record {
+  tree = c.tree;
   program = c.program;
   code = c.code;
   cert = c.cert;
   source = tt;
+  form = c.form;
+  alone = c.alone;
   compiled = c.compiled;
   correct = c.correct;
   private = c.private;
@@ -27,10 +39,13 @@ compiles-given None after bytes written order read c = record {
   checks = c.checks;
 }
 compiles-given (Some rest) after bytes written order read c = record {
+  tree = c.tree;
   program = c.program;
   code = c.code;
   cert = c.cert;
-  source = subst (λ (bs : List ℕ). IsSourceOf bs c.program) read.whole c.source;
+  source = subst (λ (bs : List ℕ). IsSourceOf bs c.tree) read.whole c.source;
+  form = c.form;
+  alone = c.alone;
   compiled = c.compiled;
   correct = c.correct;
   private = c.private;
@@ -45,6 +60,32 @@ pub compiled-given : {E : Type 0} (given after : Option (List ℕ)) (bytes : Lis
     → IfSome given (λ rest. ReadsAll rest bytes after) → IfOk r (Compiles order (Some bytes)) → IfOk r (Compiles order given)
 compiled-given given after bytes order (Ok written) read compiles = compiles-given given after bytes written order read compiles
 compiled-given given after bytes order (Err e) read compiles = tt
+
+-- the same of a source that was evaluated
+evaluates-given : (given after : Option (List ℕ)) (bytes written ps ss : List ℕ)
+    → IfSome given (λ rest. ReadsAll rest bytes after) → Evaluates ps ss (Some bytes) written → Evaluates ps ss given written
+evaluates-given None after bytes written ps ss read c = record {
+  tree = c.tree;
+  outputs = c.outputs;
+  source = tt;
+  result = c.result;
+  taken = c.taken;
+  bytes = c.bytes;
+}
+evaluates-given (Some rest) after bytes written ps ss read c = record {
+  tree = c.tree;
+  outputs = c.outputs;
+  source = subst (λ (bs : List ℕ). IsSourceOf bs c.tree) read.whole c.source;
+  result = c.result;
+  taken = c.taken;
+  bytes = c.bytes;
+}
+
+-- the same of an answer
+pub evaluated-given : {E : Type 0} (given after : Option (List ℕ)) (bytes ps ss : List ℕ) (r : Result (List ℕ) E)
+    → IfSome given (λ rest. ReadsAll rest bytes after) → IfOk r (Evaluates ps ss (Some bytes)) → IfOk r (Evaluates ps ss given)
+evaluated-given given after bytes ps ss (Ok written) read makes = evaluates-given given after bytes written ps ss read makes
+evaluated-given given after bytes ps ss (Err e) read makes = tt
 
 -- the bundle that was read is the one that was given
 checks-given : (given after : Option (List ℕ)) (bytes : List ℕ) → IfSome given (λ rest. ReadsAll rest bytes after) → Checks (Some bytes) → Checks given
@@ -84,56 +125,70 @@ decides-given : (given after : Option (List ℕ)) (bytes : List ℕ) (P : List �
 decides-given None after bytes P read holds = tt
 decides-given (Some rest) after bytes P read holds = subst P read.whole holds
 
+-- the fault of a refused evaluation has one of the answers of `eval`
+answer-of-eval : (ps ss : List ℕ) (r : Option EvalRefusal) (f : Fault) → Some f ≡ option_map fault_of_eval r → IsAnswerOf (Eval ps ss) (status_of f)
+answer-of-eval ps ss None f e = absurd cc
+answer-of-eval ps ss (Some r) f e = let same : fault_of_eval r ≡ f = cc in subst (λ (g : Fault). IsAnswerOf (Eval ps ss) (status_of g)) same (by r)
+  where
+    by : (r : EvalRefusal) → IsAnswerOf (Eval ps ss) (status_of (fault_of_eval r))
+    by (eval.Index at) = tt
+    by (eval.Large limit) = tt
+    by (eval.Length given wanted) = tt
+    by (eval.Element which index) = tt
+    by eval.Memory = tt
+
 -- a fault that the bytes decide under a command has one of its answers
 answer-of : (command : Command) (bytes : List ℕ) (fault : Fault) → TextDecides command bytes (Some fault) → IsAnswerOf command (status_of fault)
-answer-of (Compile order) bytes NotYet decides = tt
-answer-of (Compile order) bytes (Syntax at) decides = tt
-answer-of (Compile order) bytes (Unknown at) decides = tt
-answer-of (Compile order) bytes (Twice at) decides = tt
-answer-of (Compile order) bytes (Kind at) decides = tt
-answer-of (Compile order) bytes (AssignInput at) decides = tt
-answer-of (Compile order) bytes (MapForm at) decides = tt
-answer-of (Compile order) bytes fault decides = absurd decides
-answer-of Check bytes NotYet decides = tt
-answer-of Check bytes (Bundle line) decides = tt
-answer-of Check bytes (Tile instr) decides = tt
-answer-of Check bytes (Operand block) decides = tt
-answer-of Check bytes (Output index) decides = tt
-answer-of Check bytes fault decides = absurd decides.4
+answer-of (Compile order) bytes (fault_.Source why) decides = tt
+answer-of (Compile order) bytes (fault_.Inputs why) decides = absurd decides.3
+answer-of (Compile order) bytes f decides = absurd decides.3
+answer-of Check bytes (fault_.Check check.NotYet) decides = tt
+answer-of Check bytes (fault_.Check (check.Tile instr)) decides = tt
+answer-of Check bytes (fault_.Check (check.Operand block)) decides = tt
+answer-of Check bytes (fault_.Check (check.Output index)) decides = tt
+answer-of Check bytes (fault_.Bundle line) decides = tt
+answer-of Check bytes f decides = absurd decides.4
+answer-of (Eval ps ss) bytes (fault_.Source why) decides = tt
+answer-of (Eval ps ss) bytes f decides = answer-of-eval ps ss (refusal decides.0 ps ss) f decides.3
 
 -- why nothing was made of the text, said of the input
 not_made-given : (command : Command) (given after : Option (List ℕ)) (reads then_reads : ℕ) (bytes : List ℕ) (fault : Fault)
     → length bytes ≤ limit_of command → IfSome given (λ rest. ReadsAll rest bytes after) → NotMade command bytes fault → NoText command given after reads then_reads fault
-not_made-given command given after reads then_reads bytes Words within read why = why
-not_made-given command given after reads then_reads bytes NotYet within read why =
-    (decides-given given after bytes (λ bs. TextDecides command bs (Some NotYet)) read why, read-given given after bytes (limit_of command) within read, answer-of command bytes NotYet why)
-not_made-given command given after reads then_reads bytes (Syntax at) within read why =
-    (decides-given given after bytes (λ bs. TextDecides command bs (Some (Syntax at))) read why, read-given given after bytes (limit_of command) within read, answer-of command bytes (Syntax at) why)
-not_made-given command given after reads then_reads bytes (Unknown at) within read why =
-    (decides-given given after bytes (λ bs. TextDecides command bs (Some (Unknown at))) read why, read-given given after bytes (limit_of command) within read, answer-of command bytes (Unknown at) why)
-not_made-given command given after reads then_reads bytes (Twice at) within read why =
-    (decides-given given after bytes (λ bs. TextDecides command bs (Some (Twice at))) read why, read-given given after bytes (limit_of command) within read, answer-of command bytes (Twice at) why)
-not_made-given command given after reads then_reads bytes (Kind at) within read why =
-    (decides-given given after bytes (λ bs. TextDecides command bs (Some (Kind at))) read why, read-given given after bytes (limit_of command) within read, answer-of command bytes (Kind at) why)
-not_made-given command given after reads then_reads bytes (AssignInput at) within read why =
-    (decides-given given after bytes (λ bs. TextDecides command bs (Some (AssignInput at))) read why, read-given given after bytes (limit_of command) within read, answer-of command bytes (AssignInput at) why)
-not_made-given command given after reads then_reads bytes (MapForm at) within read why =
-    (decides-given given after bytes (λ bs. TextDecides command bs (Some (MapForm at))) read why, read-given given after bytes (limit_of command) within read, answer-of command bytes (MapForm at) why)
-not_made-given command given after reads then_reads bytes ReadFault within read why = absurd why
-not_made-given command given after reads then_reads bytes WriteFault within read why = why
-not_made-given command given after reads then_reads bytes Memory within read why = tt
-not_made-given command given after reads then_reads bytes (TooLong at) within read why = absurd why
-not_made-given command given after reads then_reads bytes (Bundle line) within read why =
-    (decides-given given after bytes (λ bs. TextDecides command bs (Some (Bundle line))) read why, read-given given after bytes (limit_of command) within read, answer-of command bytes (Bundle line) why)
-not_made-given command given after reads then_reads bytes (Tile instr) within read why =
-    (decides-given given after bytes (λ bs. TextDecides command bs (Some (Tile instr))) read why, read-given given after bytes (limit_of command) within read, answer-of command bytes (Tile instr) why)
-not_made-given command given after reads then_reads bytes (Operand block) within read why =
-    (decides-given given after bytes (λ bs. TextDecides command bs (Some (Operand block))) read why, read-given given after bytes (limit_of command) within read, answer-of command bytes (Operand block) why)
-not_made-given command given after reads then_reads bytes (Output index) within read why =
-    (decides-given given after bytes (λ bs. TextDecides command bs (Some (Output index))) read why, read-given given after bytes (limit_of command) within read, answer-of command bytes (Output index) why)
+not_made-given command given after reads then_reads bytes fault_.Words within read why = why
+not_made-given command given after reads then_reads bytes (fault_.Source w) within read why =
+    (decides-given given after bytes (λ bs. TextDecides command bs (Some (fault_.Source w))) read why, read-given given after bytes (limit_of command) within read, answer-of command bytes (fault_.Source w) why)
+not_made-given command given after reads then_reads bytes (fault_.Inputs w) within read why =
+    (decides-given given after bytes (λ bs. TextDecides command bs (Some (fault_.Inputs w))) read why, read-given given after bytes (limit_of command) within read, answer-of command bytes (fault_.Inputs w) why)
+not_made-given command given after reads then_reads bytes (fault_.Check w) within read why =
+    (decides-given given after bytes (λ bs. TextDecides command bs (Some (fault_.Check w))) read why, read-given given after bytes (limit_of command) within read, answer-of command bytes (fault_.Check w) why)
+not_made-given command given after reads then_reads bytes (fault_.Bundle line) within read why =
+    (decides-given given after bytes (λ bs. TextDecides command bs (Some (fault_.Bundle line))) read why, read-given given after bytes (limit_of command) within read, answer-of command bytes (fault_.Bundle line) why)
+not_made-given command given after reads then_reads bytes fault_.ReadFault within read why = absurd why
+not_made-given command given after reads then_reads bytes fault_.WriteFault within read why = why
+not_made-given command given after reads then_reads bytes fault_.Memory within read why = tt
+not_made-given command given after reads then_reads bytes (fault_.TooLong at) within read why = absurd why
 
 -- the same of an answer
 pub no_text-given : {X : Type 0} (command : Command) (given after : Option (List ℕ)) (reads then_reads : ℕ) (bytes : List ℕ) (r : Result X Fault)
     → length bytes ≤ limit_of command → IfSome given (λ rest. ReadsAll rest bytes after) → IfErr r (NotMade command bytes) → IfErr r (NoText command given after reads then_reads)
 no_text-given command given after reads then_reads bytes (Ok x) within read why = tt
 no_text-given command given after reads then_reads bytes (Err fault) within read why = not_made-given command given after reads then_reads bytes fault within read why
+
+-- why the form of the tree of a text is refused is why nothing is compiled of the text
+pub form_not_made : (order : ℕ) (bytes : List ℕ) (tree : Tree) (e : SourceRefusal) → IsSourceOf bytes tree → IsFormRefusal tree e → NotMade (Compile order) bytes (fault_of_source e)
+form_not_made order bytes tree (refused.NotYet at) is why = (tree, is.spelled.spelled, is.typed, why.1)
+form_not_made order bytes tree refused.Memory is why = tt
+form_not_made order bytes tree e is why = absurd why
+
+-- why the evaluation of the tree of a text is refused is why nothing is made of the text
+pub eval_not_made : (ps ss bytes : List ℕ) (tree : Tree) (e : EvalRefusal) → IsSourceOf bytes tree → (e ≡ eval.Memory) ⊎ (refusal tree ps ss ≡ Some e)
+    → NotMade (Eval ps ss) bytes (fault_of_eval e)
+eval_not_made ps ss bytes tree e is (inl wanted) = subst (λ (x : EvalRefusal). NotMade (Eval ps ss) bytes (fault_of_eval x)) (sym wanted) tt
+eval_not_made ps ss bytes tree e is (inr why) = by e why
+  where
+    by : (x : EvalRefusal) → refusal tree ps ss ≡ Some x → NotMade (Eval ps ss) bytes (fault_of_eval x)
+    by (eval.Index at) h = (tree, is.spelled.spelled, is.typed, sym (ap (option_map fault_of_eval) h))
+    by (eval.Large limit) h = (tree, is.spelled.spelled, is.typed, sym (ap (option_map fault_of_eval) h))
+    by (eval.Length given wanted) h = (tree, is.spelled.spelled, is.typed, sym (ap (option_map fault_of_eval) h))
+    by (eval.Element which index) h = (tree, is.spelled.spelled, is.typed, sym (ap (option_map fault_of_eval) h))
+    by eval.Memory h = tt

@@ -13,3 +13,4 @@ pub mod Given
 pub mod SumText
 pub mod Deciding
 pub mod Ends
+pub mod Digits

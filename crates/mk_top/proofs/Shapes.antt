@@ -24,15 +24,8 @@ use Rattle.mk_ast.specs.declared.tree.Index.{Index}
 use Rattle.mk_top.specs.declared.first.Program.{Program}
 use Rattle.mk_ast.specs.declared.refusal.SourceRefusal.{SourceRefusal}
 use Rattle.mk_ast.specs.declared.refusal.SourceRefusal.TheVariants as refusal
-use Rattle.mk_parse.specs.Parsed.{IsOnlyProgram}
-use Rattle.mk_base.specs.declared.Place.{Place}
-use Rattle.mk_types.specs.declared.offence.Offence.{Offence}
-use Rattle.mk_types.specs.declared.offence.OffenceKind.{OffenceKind}
-use Rattle.mk_types.specs.declared.offence.OffenceKind.TheVariants as kind_
-use Rattle.mk_types.specs.First.{IsFirst, refusal as refusal_of}
-use Rattle.mk_types.specs.Offences.{offences, IsWellTyped}
-use Rattle.mk_top.specs.First.{declared, scalar, referred, plain, IsTreeOf, IsProgram, HasFirstForm, IsSourceOf, IsOtherSource}
-use Rattle.mk_top.specs.Reading.{Fails, IsFormRefusal, IsSourceRefusal, ◌>>=◌, is_secret, is_output, secrets_first, output_alone, name_referred, name_read, names_read, parts_of_sum, sum_alone, is_bytes, program_of}
+use Rattle.mk_top.specs.First.{declared, scalar, referred, plain, IsTreeOf, IsProgram, HasFirstForm}
+use Rattle.mk_top.specs.Reading.{Fails, IsFormRefusal, ◌>>=◌, is_secret, is_output, secrets_first, output_alone, name_referred, name_read, names_read, parts_of_sum, sum_alone, is_bytes, program_of}
 
 -- ---- steps
 
@@ -344,37 +337,3 @@ form_refused tree e h = absurd h
 -- and so has one whose names make no program
 pub names_refused : (tree : Tree) (p : Program) → program_of tree ≡ Some p → (IsProgram p → ⊥) → (q : Program) → HasFirstForm tree q → ⊥
 names_refused tree p e bad q h = bad (subst IsProgram (one_program tree p q e h) h.0)
-
--- a text whose only tree is refused for its form
-pub other_source : (text : List ℕ) (tree : Tree) → IsOnlyProgram text tree → IsWellTyped tree → ((p : Program) → HasFirstForm tree p → ⊥) → IsOtherSource text
-other_source text tree only typed other = record {
-  tree = tree;
-  spelled = only.spelled;
-  typed = typed;
-  other = λ t spelled p h. other p (subst (λ (u : Tree). HasFirstForm u p) (only.alone t spelled) h);
-}
-
--- why a text is refused, by its only tree
-pub source_refused : (text : List ℕ) (tree : Tree) (e : SourceRefusal) → IsOnlyProgram text tree → IsWellTyped tree → IsFormRefusal tree e → IsSourceRefusal text e
-source_refused text tree (refusal.NotYet at) only typed h = (h.0, other_source text tree only typed h.1)
-source_refused text tree refusal.Memory only typed h = tt
-source_refused text tree e only typed h = absurd h
-
--- why a text is refused, by the first offence of its tree
-pub typing_refused : (text : List ℕ) (tree : Tree) (e : SourceRefusal) → IsOnlyProgram text tree
-    → (e ≡ refusal.Memory) ⊎ ((x : Offence) × IsFirst (offences tree) x × (e ≡ refusal_of x)) → IsSourceRefusal text e
-typing_refused text tree e only (inl wanted) = subst (IsSourceRefusal text) (sym wanted) tt
-typing_refused text tree e only (inr h) = subst (IsSourceRefusal text) (sym h.2) (by h.0.kind h.0.at h.1)
-  where
-    by : (kind : OffenceKind) (at : Place) → IsFirst (offences tree) (record { at = at; kind = kind }) → IsSourceRefusal text (refusal_of (record { at = at; kind = kind }))
-    by kind_.Unknown at first = (tree, only.spelled, first)
-    by kind_.Twice at first = (tree, only.spelled, first)
-    by kind_.Kind at first = (tree, only.spelled, first)
-    by kind_.AssignInput at first = (tree, only.spelled, first)
-    by kind_.MapForm at first = (tree, only.spelled, first)
-
--- a well typed tree of the first form is that of its text
-pub source_found : (text : List ℕ) (tree : Tree) (r : Result Program SourceRefusal) → IsOnlyProgram text tree → IsWellTyped tree
-    → IfOk r (HasFirstForm tree) → IfOk r (λ p. (q : Program) → HasFirstForm tree q → q ≡ p) → IfOk r (IsSourceOf text)
-source_found text tree (Ok p) only typed form alone = record { tree = tree; spelled = only; typed = typed; form = form; alone = alone }
-source_found text tree (Err e) only typed form alone = tt

@@ -1,5 +1,5 @@
 -- What the answers of the program mean, by the bytes that its input gave and its output took.
-use Rattle.std.specs.Prelude.{◌≡◌, ◌≢◌, ℕ, ◌≤◌, ◌<◌, List, [], ◌++◌, Option, Some, None, IfSome, length, ◌⊎◌, codes}
+use Rattle.std.specs.Prelude.{◌≡◌, ◌≢◌, ℕ, ◌≤◌, ◌<◌, List, [], ◌∷◌, ◌++◌, Option, Some, None, IfSome, length, ◌⊎◌, codes, option_map}
 use Rattle.mk_base.specs.Outside.{Rose}
 use Rattle.mk_base.specs.Streams.{CameWithin, TakesPrefix}
 use Rattle.mk_code.specs.Listing.{Listing}
@@ -18,21 +18,27 @@ use Rattle.mk_ast.specs.Spells.{Spells, IsRefusedAt}
 use Rattle.mk_types.specs.declared.offence.OffenceKind.TheVariants as kind_
 use Rattle.mk_types.specs.Offences.{IsWellTyped}
 use Rattle.mk_top.specs.declared.first.Program.{Program}
-use Rattle.mk_top.specs.declared.command.Command.{Command}
-use Rattle.mk_top.specs.declared.command.Command.TheVariants.{Compile, Check}
+use Rattle.mk_types.specs.Meaning.{result}
+use Rattle.mk_eval.specs.Refusals.{refusal}
+use Rattle.mk_top.specs.Words.{Command, Compile, Check, Eval, elements_word}
 use Rattle.mk_top.specs.declared.status.Status.{Status}
 use Rattle.mk_top.specs.declared.status.Status.TheVariants as status
 use Rattle.mk_top.specs.declared.fault.Fault.{Fault}
-use Rattle.mk_top.specs.declared.fault.Fault.TheVariants.{Words, NotYet, Syntax, Unknown, Twice, Kind, AssignInput, MapForm, ReadFault, WriteFault, Memory, TooLong, Bundle, Tile, Operand, Output}
-use Rattle.mk_top.specs.First.{HasFirstForm, HasFirstOffence, IsSourceOf, IsNoSource, IsOtherSource}
+use Rattle.mk_top.specs.declared.fault.Fault.TheVariants as fault
+use Rattle.mk_top.specs.declared.fault.SourceFault.TheVariants as source
+use Rattle.mk_top.specs.declared.fault.CheckFault.{CheckFault}
+use Rattle.mk_top.specs.declared.fault.CheckFault.TheVariants as check
+use Rattle.mk_top.specs.First.{HasFirstForm}
+use Rattle.mk_top.specs.Sources.{HasFirstOffence, IsSourceOf, IsNoSource}
 use Rattle.mk_top.specs.Correct.{Correct}
 use Rattle.mk_top.specs.Compiled.{IsCompiled}
-use Rattle.mk_top.specs.Faults.{status_of, fault_line}
+use Rattle.mk_top.specs.Faults.{fault_of_eval, status_of, fault_line}
 
 -- the most bytes that a command reads: of a source, and of a bundle
 abbrev pub limit_of : Command → ℕ
 limit_of (Compile order) = 1048576
 limit_of Check = 268435456
+limit_of (Eval publics secrets) = 1048576
 
 -- the rule accepts the code with its certificate, whatever gadgets stand for products and refreshes
 abbrev pub IsAccepted : Listing → Claimed → Type 0
@@ -46,58 +52,60 @@ TakesWhole before written after = IfSome before (λ taken. after ≡ Some (taken
 abbrev pub TakesSome : Option (List ℕ) → List ℕ → Option (List ℕ) → Type 0
 TakesSome before written after = IfSome before (λ taken. TakesPrefix taken written after)
 
--- The answer that a code and certificate decide: acceptance, or the first fault. Blocks other than sums
--- are not checked yet; then come the first block with a wrong operand, the first instruction that isn't
--- that of its template, and the first output that isn't the claimed value.
-abbrev pub PairDecides : Listing → Claimed → Option Fault → Type 0
-PairDecides code cert None = AreSums cert.blocks × IsAccepted code cert
-PairDecides code cert (Some Words) = ⊥
-PairDecides code cert (Some NotYet) = AreSums cert.blocks → ⊥
-PairDecides code cert (Some (Syntax at)) = ⊥
-PairDecides code cert (Some (Unknown at)) = ⊥
-PairDecides code cert (Some (Twice at)) = ⊥
-PairDecides code cert (Some (Kind at)) = ⊥
-PairDecides code cert (Some (AssignInput at)) = ⊥
-PairDecides code cert (Some (MapForm at)) = ⊥
-PairDecides code cert (Some ReadFault) = ⊥
-PairDecides code cert (Some WriteFault) = ⊥
-PairDecides code cert (Some Memory) = ⊥
-PairDecides code cert (Some (TooLong limit)) = ⊥
-PairDecides code cert (Some (Bundle line)) = ⊥
-PairDecides code cert (Some (Operand block)) = AreSums cert.blocks × FirstUnwired code cert.blocks block
-PairDecides code cert (Some (Tile instr)) =
+-- why a code is refused with its certificate: blocks other than sums are not checked yet; then come the first
+-- block with a wrong operand, the first instruction that isn't that of its template, and the first output
+-- that isn't the claimed value
+abbrev pub IsRefused : Listing → Claimed → CheckFault → Type 0
+IsRefused code cert check.NotYet = AreSums cert.blocks → ⊥
+IsRefused code cert (check.Operand block) = AreSums cert.blocks × FirstUnwired code cert.blocks block
+IsRefused code cert (check.Tile instr) =
     AreSums cert.blocks × Wired code cert.blocks × ((product refresh : Gadget) → FirstOffTile code product refresh cert.blocks instr)
-PairDecides code cert (Some (Output index)) =
+IsRefused code cert (check.Output index) =
     AreSums cert.blocks × Wired code cert.blocks
     × ((product refresh : Gadget) → Tiles code product refresh cert.blocks × FirstWrongOutput code product refresh cert.blocks cert.claims index)
 
+-- the answer that a code and certificate decide: acceptance, or why they are refused
+abbrev pub PairDecides : Listing → Claimed → Option Fault → Type 0
+PairDecides code cert None = AreSums cert.blocks × IsAccepted code cert
+PairDecides code cert (Some (fault.Check why)) = IsRefused code cert why
+PairDecides code cert (Some _) = ⊥
+
 -- the answer that a bundle decides: that of its code and certificate, or where it goes wrong as a text
 abbrev pub BundleDecides : List ℕ → Option Fault → Type 0
-BundleDecides bytes (Some (Bundle line)) = NamesFirst line bytes × (IsBundleText bytes → ⊥)
+BundleDecides bytes (Some (fault.Bundle line)) = NamesFirst line bytes × (IsBundleText bytes → ⊥)
 BundleDecides bytes answer = (code : Listing) × (cert : Claimed) × IsPair code cert × (bytes ≡ text code cert) × PairDecides code cert answer
 
--- The answer that a source decides: it spells a tree that is well typed and of the first form, or only
--- others that are well typed, or one with a first offence, or none, and then its first place where no
--- program can go on.
-abbrev pub SourceDecides : List ℕ → Option Fault → Type 0
-SourceDecides bytes None = (tree : Tree) × Spells tree bytes × IsWellTyped tree × ((p : Program) × HasFirstForm tree p)
-SourceDecides bytes (Some NotYet) = IsOtherSource bytes
-SourceDecides bytes (Some (Syntax at)) = IsRefusedAt bytes at × IsNoSource bytes
-SourceDecides bytes (Some (Unknown at)) = HasFirstOffence bytes kind_.Unknown at
-SourceDecides bytes (Some (Twice at)) = HasFirstOffence bytes kind_.Twice at
-SourceDecides bytes (Some (Kind at)) = HasFirstOffence bytes kind_.Kind at
-SourceDecides bytes (Some (AssignInput at)) = HasFirstOffence bytes kind_.AssignInput at
-SourceDecides bytes (Some (MapForm at)) = HasFirstOffence bytes kind_.MapForm at
-SourceDecides bytes (Some _) = ⊥
+-- The answer that a source decides, by what a well typed tree decides: it spells none, and then its first
+-- place where no program can go on; or one with a first offence; or one that is well typed.
+abbrev pub SourceDecides : (Tree → Option Fault → Type 0) → List ℕ → Option Fault → Type 0
+SourceDecides decides bytes (Some (fault.Source (source.Syntax at))) = IsRefusedAt bytes at × IsNoSource bytes
+SourceDecides decides bytes (Some (fault.Source (source.Unknown at))) = HasFirstOffence bytes kind_.Unknown at
+SourceDecides decides bytes (Some (fault.Source (source.Twice at))) = HasFirstOffence bytes kind_.Twice at
+SourceDecides decides bytes (Some (fault.Source (source.Kind at))) = HasFirstOffence bytes kind_.Kind at
+SourceDecides decides bytes (Some (fault.Source (source.AssignInput at))) = HasFirstOffence bytes kind_.AssignInput at
+SourceDecides decides bytes (Some (fault.Source (source.MapForm at))) = HasFirstOffence bytes kind_.MapForm at
+SourceDecides decides bytes answer = (tree : Tree) × Spells tree bytes × IsWellTyped tree × decides tree answer
+
+-- the answer that a well typed tree decides under `compile`: whether it has the first form
+abbrev pub CompileDecides : Tree → Option Fault → Type 0
+CompileDecides tree None = (p : Program) × HasFirstForm tree p
+CompileDecides tree (Some (fault.Source source.NotYet)) = (p : Program) → HasFirstForm tree p → ⊥
+CompileDecides tree (Some _) = ⊥
+
+-- the answer that it decides under `eval`: the first refusal of the evaluation on these inputs, if there is
+-- one
+abbrev pub EvalDecides : List ℕ → List ℕ → Tree → Option Fault → Type 0
+EvalDecides publics secrets tree answer = answer ≡ option_map fault_of_eval (refusal tree publics secrets)
 
 -- the answer that the bytes within the limit decide
 abbrev pub TextDecides : Command → List ℕ → Option Fault → Type 0
-TextDecides (Compile order) bytes answer = SourceDecides bytes answer
+TextDecides (Compile order) bytes answer = SourceDecides CompileDecides bytes answer
 TextDecides Check bytes answer = BundleDecides bytes answer
+TextDecides (Eval publics secrets) bytes answer = SourceDecides (EvalDecides publics secrets) bytes answer
 
 -- the answer that the bytes of the input decide under a command: no fault, or this one
 abbrev pub Decides : Command → List ℕ → Option Fault → Type 0
-Decides command bytes (Some (TooLong limit)) = (limit ≡ limit_of command) × (limit < length bytes)
+Decides command bytes (Some (fault.TooLong limit)) = (limit ≡ limit_of command) × (limit < length bytes)
 Decides command bytes answer = (length bytes ≤ limit_of command) × TextDecides command bytes answer
 
 -- A source, given where the input tells its bytes, was compiled at this order to this text: the bytes
@@ -105,10 +113,13 @@ Decides command bytes answer = (length bytes ≤ limit_of command) × TextDecide
 -- code and a certificate which are the program's. The code is correct for the program and private, the rule accepts
 -- it with the certificate, and the bytes of the text decide that `check` has no fault.
 pub record Compiles (order : ℕ) (given : Option (List ℕ)) (written : List ℕ) : Type 0 where
+  pub tree : Tree
   pub program : Program
   pub code : Listing
   pub cert : Claimed
-  pub source : IfSome given (λ bytes. IsSourceOf bytes program)
+  pub source : IfSome given (λ bytes. IsSourceOf bytes tree)
+  pub form : HasFirstForm tree program
+  pub alone : (q : Program) → HasFirstForm tree q → q ≡ program
   pub compiled : IsCompiled program order code cert
   pub correct : Correct program order code
   pub private : Private code
@@ -128,25 +139,36 @@ pub record Checks (given : Option (List ℕ)) : Type 0 where
   pub accepted : IsAccepted code cert
   pub private : Private code
 
+-- A source, given where the input tells its bytes, was evaluated on these inputs to this text: the bytes spell
+-- one tree, which is well typed, and the text is the word of its result on them and a line feed.
+pub record Evaluates (publics secrets : List ℕ) (given : Option (List ℕ)) (written : List ℕ) : Type 0 where
+  pub tree : Tree
+  pub outputs : List ℕ
+  pub source : IfSome given (λ bytes. IsSourceOf bytes tree)
+  pub result : result tree publics secrets ≡ Some outputs
+  pub taken : refusal tree publics secrets ≡ None
+  pub bytes : written ≡ elements_word outputs ++ 10 ∷ []
+
 -- what a command made of its input, and the text that it writes
 abbrev pub Makes : Command → Option (List ℕ) → List ℕ → Type 0
 Makes (Compile order) given written = Compiles order given written
 Makes Check given written = Checks given × (written ≡ codes "accepted\n")
+Makes (Eval publics secrets) given written = Evaluates publics secrets given written
 
 -- Why a command answers a fault. Reading and writing fail only where the input's, the output's count of
 -- faults rose, reading only while no more bytes than the limit came; want of memory is free, and the
 -- bytes of the input decide every other fault.
 abbrev pub Because : Command → Option (List ℕ) → Option (List ℕ) → ℕ → ℕ → ℕ → ℕ → Fault → Type 0
-Because command given after reads then_reads writes then_writes ReadFault =
+Because command given after reads then_reads writes then_writes fault.ReadFault =
     Rose reads then_reads × IfSome given (λ bytes. CameWithin (limit_of command) bytes after)
-Because command given after reads then_reads writes then_writes WriteFault = Rose writes then_writes
-Because command given after reads then_reads writes then_writes Memory = Unit {0}
-Because command given after reads then_reads writes then_writes fault = IfSome given (λ bytes. Decides command bytes (Some fault))
+Because command given after reads then_reads writes then_writes fault.WriteFault = Rose writes then_writes
+Because command given after reads then_reads writes then_writes fault.Memory = Unit {0}
+Because command given after reads then_reads writes then_writes why = IfSome given (λ bytes. Decides command bytes (Some why))
 
 -- the status of an answer: done, or that of its fault
 abbrev pub answer_status : Option Fault → Status
 answer_status None = status.Done
-answer_status (Some fault) = status_of fault
+answer_status (Some why) = status_of why
 
 -- the input was read to its end, within the limit, where it tells its bytes
 abbrev pub ReadWhole : ℕ → Option (List ℕ) → Option (List ℕ) → Type 0
@@ -174,10 +196,11 @@ IsAnswerOf command status.Memory = Unit {0}
 IsAnswerOf command status.TooLong = Unit {0}
 IsAnswerOf Check status.Refused = Unit {0}
 IsAnswerOf Check status.Bundle = Unit {0}
+IsAnswerOf (Eval publics secrets) status.Inputs = Unit {0}
 IsAnswerOf command _ = ⊥
 
 -- the fault's line was told: a prefix of it, where the error output tells what it took, and the whole
 -- line where the error output's count of faults didn't rise
 abbrev pub Tells : Fault → Option (List ℕ) → Option (List ℕ) → ℕ → ℕ → Type 0
-Tells fault before after faults now =
-    TakesSome before (fault_line fault) after × ((Rose faults now → ⊥) → TakesWhole before (fault_line fault) after)
+Tells why before after faults now =
+    TakesSome before (fault_line why) after × ((Rose faults now → ⊥) → TakesWhole before (fault_line why) after)

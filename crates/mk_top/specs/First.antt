@@ -1,4 +1,4 @@
--- Programs of the first form, the trees that they are, and the texts that spell them.
+-- Programs of the first form, and the trees that they are.
 use Rattle.std.specs.Prelude.{◌≡◌, ℕ, ◌≤◌, List, [], ◌∷◌, ◌++◌, length, map, Option, None, Contains}
 use Rattle.std.specs.List.{AllByRecursion}
 use Rattle.mk_field.specs.declared.field.FieldId.TheVariants.{Gf256}
@@ -12,12 +12,6 @@ use Rattle.mk_ast.specs.declared.tree.Stmt.TheVariants.{Set}
 use Rattle.mk_ast.specs.declared.tree.Ref.{Ref}
 use Rattle.mk_ast.specs.declared.tree.Expr.TheVariants.{Read, Sum}
 use Rattle.mk_ast.specs.declared.tree.Index.{Index}
-use Rattle.mk_ast.specs.Spells.{Spells}
-use Rattle.mk_parse.specs.Parsed.{IsOnlyProgram}
-use Rattle.mk_base.specs.declared.Place.{Place}
-use Rattle.mk_types.specs.declared.offence.OffenceKind.{OffenceKind}
-use Rattle.mk_types.specs.First.{IsFirst}
-use Rattle.mk_types.specs.Offences.{offences, IsWellTyped}
 use Rattle.mk_top.specs.declared.first.Program.{Program}
 
 -- what a declaration says, whatever its place
@@ -67,26 +61,3 @@ pub record IsProgram (p : Program) : Type 0 where
 -- the tree has the first form, as this program
 abbrev pub HasFirstForm : Tree → Program → Type 0
 HasFirstForm tree p = IsProgram p × IsTreeOf tree p
-
--- the text spells one tree only, which is well typed, and it has the first form as this program only
-pub record IsSourceOf (text : List ℕ) (p : Program) : Type 0 where
-  pub tree : Tree
-  pub spelled : IsOnlyProgram text tree
-  pub typed : IsWellTyped tree
-  pub form : HasFirstForm tree p
-  pub alone : (q : Program) → HasFirstForm tree q → q ≡ p
-
--- the text spells no tree
-abbrev pub IsNoSource : List ℕ → Type 0
-IsNoSource text = (tree : Tree) → Spells tree text → ⊥
-
--- the text spells a tree whose first offence against the typing is of this kind, at this place
-abbrev pub HasFirstOffence : List ℕ → OffenceKind → Place → Type 0
-HasFirstOffence text kind at = (tree : Tree) × Spells tree text × IsFirst (offences tree) (record { at = at; kind = kind })
-
--- the text spells a tree that is well typed, but none of the first form
-pub record IsOtherSource (text : List ℕ) : Type 0 where
-  pub tree : Tree
-  pub spelled : Spells tree text
-  pub typed : IsWellTyped tree
-  pub other : (t : Tree) → Spells t text → (p : Program) → HasFirstForm t p → ⊥

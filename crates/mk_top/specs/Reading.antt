@@ -17,10 +17,8 @@ use Rattle.mk_ast.specs.declared.tree.Expr.TheOpen.{Expr-F, Sum}
 use Rattle.mk_ast.specs.declared.tree.Expr.TheViews.{out-Expr}
 use Rattle.mk_ast.specs.declared.refusal.SourceRefusal.{SourceRefusal}
 use Rattle.mk_ast.specs.declared.refusal.SourceRefusal.TheVariants as refusal
-use Rattle.mk_ast.specs.Spells.{IsRefusedAt}
-use Rattle.mk_types.specs.declared.offence.OffenceKind.TheVariants as kind_
 use Rattle.mk_top.specs.declared.first.Program.{Program}
-use Rattle.mk_top.specs.First.{HasFirstForm, HasFirstOffence, IsNoSource, IsOtherSource}
+use Rattle.mk_top.specs.First.{HasFirstForm}
 
 -- the place that is told of a source that isn't compiled yet
 abbrev pub first_place : Place
@@ -31,19 +29,6 @@ abbrev pub IsFormRefusal : Tree → SourceRefusal → Type 0
 IsFormRefusal tree (refusal.NotYet at) = (at ≡ first_place) × ((p : Program) → HasFirstForm tree p → ⊥)
 IsFormRefusal tree refusal.Memory = Unit {0}
 IsFormRefusal tree _ = ⊥
-
--- why a text is not read: it spells no tree, or one with an offence, or one of another form, or memory
--- was wanted
-abbrev pub IsSourceRefusal : List ℕ → SourceRefusal → Type 0
-IsSourceRefusal text (refusal.NotYet at) = (at ≡ first_place) × IsOtherSource text
-IsSourceRefusal text (refusal.Syntax at) = IsRefusedAt text at × IsNoSource text
-IsSourceRefusal text (refusal.Unknown at) = HasFirstOffence text kind_.Unknown at
-IsSourceRefusal text (refusal.Twice at) = HasFirstOffence text kind_.Twice at
-IsSourceRefusal text (refusal.Kind at) = HasFirstOffence text kind_.Kind at
-IsSourceRefusal text (refusal.AssignInput at) = HasFirstOffence text kind_.AssignInput at
-IsSourceRefusal text (refusal.MapForm at) = HasFirstOffence text kind_.MapForm at
-IsSourceRefusal text refusal.Memory = Unit {0}
-IsSourceRefusal text _ = ⊥
 
 -- what was read is read on, and what was not read is not
 infixl 10 ◌>>=◌

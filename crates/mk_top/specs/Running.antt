@@ -4,11 +4,11 @@ use Rattle.mk_base.specs.Outside.{Rose}
 use Rattle.mk_base.specs.Streams.{CameWithin}
 use Rattle.mk_code.specs.Listing.{Listing}
 use Rattle.mk_rules.specs.Claimed.{Claimed}
-use Rattle.mk_top.specs.declared.command.Command.{Command}
 use Rattle.mk_top.specs.declared.fault.Fault.{Fault}
-use Rattle.mk_top.specs.declared.fault.Fault.TheVariants.{Words, ReadFault, WriteFault, Memory, TooLong}
-use Rattle.mk_top.specs.Words.{Asks, IsNoForm}
-use Rattle.mk_top.specs.Answers.{ReadWhole, Makes, PairDecides, TextDecides, Decides, limit_of, TakesWhole, TakesSome, IsAnswerOf}
+use Rattle.mk_top.specs.declared.fault.Fault.TheVariants.{Words, Source, Check, ReadFault, WriteFault, Memory, TooLong}
+use Rattle.mk_top.specs.declared.fault.SourceFault.TheVariants as source
+use Rattle.mk_top.specs.Words.{Command, Asks, IsNoForm}
+use Rattle.mk_top.specs.Answers.{ReadWhole, Makes, PairDecides, SourceDecides, TextDecides, Decides, limit_of, TakesWhole, TakesSome, IsAnswerOf}
 use Rattle.mk_top.specs.Faults.{status_of}
 
 -- why a text was not read, by the input's bytes before and after and its count of faults before and after
@@ -22,6 +22,12 @@ NotRead limit given after reads then_reads _ = ⊥
 abbrev pub NotAccepted : Listing → Claimed → Fault → Type 0
 NotAccepted code cert Memory = Unit {0}
 NotAccepted code cert fault = PairDecides code cert (Some fault)
+
+-- why there is no typed source: the text spells none, or one with a first offence, or memory was wanted
+abbrev pub NotTyped : List ℕ → Fault → Type 0
+NotTyped bytes Memory = Unit {0}
+NotTyped bytes (Source why) = SourceDecides (λ tree answer. ⊥) bytes (Some (Source why))
+NotTyped bytes fault = ⊥
 
 -- why nothing was made of a text that was read
 abbrev pub NotMade : Command → List ℕ → Fault → Type 0

@@ -1,11 +1,11 @@
 ghost use Rattle.std.specs.Prelude.{◌≡◌, ◌≤◌, ◌↔◌, Some, IsTrue, OnOk, IfErr, length};
 ghost use Rattle.mk_code.specs.Private.{Private};
 ghost use Rattle.mk_rules.specs.Sums.{AreSums};
-ghost use Rattle.mk_top.specs.declared.command.Command.TheVariants.{Check};
+ghost use Rattle.mk_top.specs.Words.{Check};
 ghost use Rattle.mk_top.specs.Answers.{IsAccepted, Checks, ReadWhole, limit_of};
 ghost use Rattle.mk_top.specs.Running.{NotAccepted, NotMade, NoText};
 
-use crate::fault::Fault;
+use crate::fault::{CheckFault, Fault};
 use crate::reading::whole_text;
 use mk_base::Source;
 use mk_bundle::read_bundle;
@@ -31,9 +31,9 @@ fn accepted(alloc: Global, code: &Code, cert: &Cert) -> Result<(), Fault>
 {
     match check(alloc, code, cert) {
         Ok(()) => Ok(()),
-        Err(CheckRefusal::Operand { block }) => Err(Fault::Operand { block }),
-        Err(CheckRefusal::Tile { instr }) => Err(Fault::Tile { instr }),
-        Err(CheckRefusal::Output { index }) => Err(Fault::Output { index }),
+        Err(CheckRefusal::Operand { block }) => Err(Fault::Check(CheckFault::Operand { block })),
+        Err(CheckRefusal::Tile { instr }) => Err(Fault::Check(CheckFault::Tile { instr })),
+        Err(CheckRefusal::Output { index }) => Err(Fault::Check(CheckFault::Output { index })),
         // No value of a sum is doubled.
         Err(CheckRefusal::Doubled { value: _, block: _ }) => unreachable!(),
         Err(CheckRefusal::Memory) => Err(Fault::Memory),
@@ -48,7 +48,7 @@ fn verdict_of(alloc: Global, text: &[u8]) -> Result<(), Fault>
 {
     let bundle = read_bundle(alloc, text)?;
     if !are_sums(bundle.cert.blocks().as_slice()) {
-        return Err(Fault::NotYet);
+        return Err(Fault::Check(CheckFault::NotYet));
     }
     accepted(alloc, &bundle.code, &bundle.cert)
 }

@@ -1,31 +1,72 @@
 ghost use Rattle.std.specs.Prelude.{◌≡◌, ◌≤◌, ◌++◌, ◌∷◌, [], length, decimal, codes};
-ghost use Rattle.mk_top.specs.Faults.{status_of, fault_line};
+ghost use Rattle.mk_top.specs.Faults.{status_of, check_status, fault_line, source_line, large_line, input_line, element_head, check_line};
 
 use crate::status::Status;
 use arrayvec::ArrayString;
 use itoa::Buffer;
-use mk_base::{Memory, Place};
+use mk_ast::{Limit, SourceRefusal};
+use mk_base::{Memory, Place, Which};
 use mk_bundle::BundleRefusal;
+use mk_eval::EvalRefusal;
+
+/// Why a source is refused, with the place where.
+#[derive(Clone, Copy, Debug, PartialEq, Eq)]
+pub enum SourceFault {
+    /// The program is not of a form that is compiled yet.
+    NotYet,
+    /// No program goes on with what stands there.
+    Syntax { at: Place },
+    /// The name there is not declared.
+    Unknown { at: Place },
+    /// The name there is declared twice.
+    Twice { at: Place },
+    /// What stands there is of another kind than its place wants.
+    Kind { at: Place },
+    /// The target there is an input.
+    AssignInput { at: Place },
+    /// The map there is none that the field has.
+    MapForm { at: Place },
+    /// The index of the array whose name stands there goes past the array or past 65,535.
+    Index { at: Place },
+    /// This limit is exceeded.
+    Large { limit: Limit },
+}
+
+/// Why the inputs of a program are refused.
+#[derive(Clone, Copy, Debug, PartialEq, Eq)]
+pub enum InputFault {
+    /// So many inputs were given, and so many are wanted.
+    Length { given: u32, wanted: u32 },
+    /// The input of this number, from 0, is no element of the field.
+    Element { which: Which, index: u32 },
+}
+
+/// Why a code with its certificate is refused.
+#[derive(Clone, Copy, Debug, PartialEq, Eq)]
+pub enum CheckFault {
+    /// A block is not of a kind that is checked yet.
+    NotYet,
+    /// This instruction is not that of its block's template.
+    Tile { instr: u32 },
+    /// An operand of this block is not there, or not of its kind.
+    Operand { block: u32 },
+    /// This output is not the claimed value.
+    Output { index: u32 },
+}
 
 /// Why a run ends without its text.
 #[derive(Clone, Copy, Debug, PartialEq, Eq)]
 pub enum Fault {
     /// The words are no command.
     Words,
-    /// The source, or the bundle, is not of a form that is taken yet.
-    NotYet,
-    /// No program goes on with what stands at this place of the source.
-    Syntax { at: Place },
-    /// The name at this place of the source is not declared.
-    Unknown { at: Place },
-    /// The name at this place of the source is declared twice.
-    Twice { at: Place },
-    /// What stands at this place of the source is of another kind than its place wants.
-    Kind { at: Place },
-    /// The target at this place of the source is an input.
-    AssignInput { at: Place },
-    /// The map at this place of the source is none that the field has.
-    MapForm { at: Place },
+    /// The source is refused.
+    Source(SourceFault),
+    /// The inputs are refused.
+    Inputs(InputFault),
+    /// The checker refuses.
+    Check(CheckFault),
+    /// No bundle text goes on behind this line, counted from 1.
+    Bundle { line: u32 },
     /// Reading failed.
     ReadFault,
     /// Writing failed.
@@ -34,14 +75,6 @@ pub enum Fault {
     Memory,
     /// More bytes came than this limit.
     TooLong { limit: u32 },
-    /// No bundle text goes on behind this line, counted from 1.
-    Bundle { line: u32 },
-    /// This instruction is not that of its block's template.
-    Tile { instr: u32 },
-    /// An operand of this block is not there, or not of its kind.
-    Operand { block: u32 },
-    /// This output is not the claimed value.
-    Output { index: u32 },
 }
 
 /// A fault line. It takes no memory, so that every refusal can be told.
@@ -72,6 +105,132 @@ impl From<BundleRefusal> for Fault {
     }
 }
 
+impl From<SourceRefusal> for Fault {
+    ghost use Rattle.std.specs.Prelude.{◌≡◌};
+    ghost use Rattle.mk_top.specs.Faults.{fault_of_source};
+
+    ghost from_gives = { λ refusal fault. fault ≡ fault_of_source refusal };
+
+    fn from(refusal: SourceRefusal) -> Fault {
+        match refusal {
+            SourceRefusal::NotYet(_) => Fault::Source(SourceFault::NotYet),
+            SourceRefusal::Syntax(at) => Fault::Source(SourceFault::Syntax { at }),
+            SourceRefusal::Unknown(at) => Fault::Source(SourceFault::Unknown { at }),
+            SourceRefusal::Twice(at) => Fault::Source(SourceFault::Twice { at }),
+            SourceRefusal::Kind(at) => Fault::Source(SourceFault::Kind { at }),
+            SourceRefusal::AssignInput(at) => Fault::Source(SourceFault::AssignInput { at }),
+            SourceRefusal::MapForm(at) => Fault::Source(SourceFault::MapForm { at }),
+            SourceRefusal::Index(at) => Fault::Source(SourceFault::Index { at }),
+            SourceRefusal::Large(limit) => Fault::Source(SourceFault::Large { limit }),
+            SourceRefusal::Memory => Fault::Memory,
+        }
+    }
+}
+
+impl From<EvalRefusal> for Fault {
+    ghost use Rattle.std.specs.Prelude.{◌≡◌};
+    ghost use Rattle.mk_top.specs.Faults.{fault_of_eval};
+
+    ghost from_gives = { λ refusal fault. fault ≡ fault_of_eval refusal };
+
+    fn from(refusal: EvalRefusal) -> Fault {
+        match refusal {
+            EvalRefusal::Index(at) => Fault::Source(SourceFault::Index { at }),
+            EvalRefusal::Large(limit) => Fault::Source(SourceFault::Large { limit }),
+            EvalRefusal::Length { given, wanted } => {
+                Fault::Inputs(InputFault::Length { given, wanted })
+            }
+            EvalRefusal::Element { which, index } => {
+                Fault::Inputs(InputFault::Element { which, index })
+            }
+            EvalRefusal::Memory => Fault::Memory,
+        }
+    }
+}
+
+impl SourceFault {
+    /// Its line, with the line feed.
+    fn line(self) -> FaultLine
+        ensures { result.bytes ≡ source_line self }
+    {
+        match self {
+            SourceFault::NotYet => fixed("30 not yet 1:1\n"),
+            SourceFault::Syntax { at } => placed("31 syntax ", at),
+            SourceFault::Unknown { at } => placed("32 unknown ", at),
+            SourceFault::Twice { at } => placed("33 twice ", at),
+            SourceFault::Kind { at } => placed("34 kind ", at),
+            SourceFault::AssignInput { at } => placed("35 input ", at),
+            SourceFault::MapForm { at } => placed("36 map ", at),
+            SourceFault::Index { at } => placed("37 index ", at),
+            SourceFault::Large { limit } => fixed(large_line(limit)),
+        }
+    }
+}
+
+/// The line of a limit that is exceeded.
+fn large_line(limit: Limit) -> &'static str
+    ensures line { result.now ≡ large_line limit }
+    ensures short { length result.now ≤ 64 }
+{
+    match limit {
+        Limit::Elements => "38 large elements\n",
+        Limit::Work => "38 large work\n",
+        Limit::Operations => "38 large operations\n",
+        Limit::Size => "38 large size\n",
+    }
+}
+
+impl InputFault {
+    /// Its line, with the line feed.
+    fn line(self) -> FaultLine
+        ensures { result.bytes ≡ input_line self }
+    {
+        match self {
+            InputFault::Length { given, wanted } => compared("51 length ", given, wanted),
+            InputFault::Element { which, index } => numbered(element_head(which), index),
+        }
+    }
+}
+
+/// The head of the line of an input that is no element.
+fn element_head(which: Which) -> &'static str
+    ensures head { result.now ≡ element_head which }
+    ensures short { length result.now ≤ 40 }
+{
+    match which {
+        Which::Public => "52 element public ",
+        Which::Secret => "52 element secret ",
+        Which::Other => "52 element other ",
+        Which::Tape => "52 element tape ",
+    }
+}
+
+impl CheckFault {
+    /// The status that it ends with.
+    fn status(self) -> Status
+        ensures { result ≡ check_status self }
+    {
+        match self {
+            CheckFault::NotYet => Status::Source,
+            CheckFault::Tile { instr: _ }
+            | CheckFault::Operand { block: _ }
+            | CheckFault::Output { index: _ } => Status::Refused,
+        }
+    }
+
+    /// Its line, with the line feed.
+    fn line(self) -> FaultLine
+        ensures { result.bytes ≡ check_line self }
+    {
+        match self {
+            CheckFault::NotYet => fixed("30 not yet 1:1\n"),
+            CheckFault::Tile { instr } => numbered("11 tile ", instr),
+            CheckFault::Operand { block } => numbered("12 operand ", block),
+            CheckFault::Output { index } => numbered("14 output ", index),
+        }
+    }
+}
+
 impl Fault {
     /// The status that it ends with.
     pub(crate) fn status(self) -> Status
@@ -79,21 +238,14 @@ impl Fault {
     {
         match self {
             Fault::Words => Status::Words,
-            Fault::NotYet
-            | Fault::Syntax { at: _ }
-            | Fault::Unknown { at: _ }
-            | Fault::Twice { at: _ }
-            | Fault::Kind { at: _ }
-            | Fault::AssignInput { at: _ }
-            | Fault::MapForm { at: _ } => Status::Source,
+            Fault::Source(_) => Status::Source,
+            Fault::Inputs(_) => Status::Inputs,
+            Fault::Check(fault) => fault.status(),
+            Fault::Bundle { line: _ } => Status::Bundle,
             Fault::ReadFault => Status::ReadFault,
             Fault::WriteFault => Status::WriteFault,
             Fault::Memory => Status::Memory,
             Fault::TooLong { limit: _ } => Status::TooLong,
-            Fault::Bundle { line: _ } => Status::Bundle,
-            Fault::Tile { instr: _ } | Fault::Operand { block: _ } | Fault::Output { index: _ } => {
-                Status::Refused
-            }
         }
     }
 
@@ -103,21 +255,14 @@ impl Fault {
     {
         match self {
             Fault::Words => fixed("21 words\n"),
-            Fault::NotYet => fixed("30 not yet 1:1\n"),
-            Fault::Syntax { at } => placed("31 syntax ", at),
-            Fault::Unknown { at } => placed("32 unknown ", at),
-            Fault::Twice { at } => placed("33 twice ", at),
-            Fault::Kind { at } => placed("34 kind ", at),
-            Fault::AssignInput { at } => placed("35 input ", at),
-            Fault::MapForm { at } => placed("36 map ", at),
+            Fault::Source(fault) => fault.line(),
+            Fault::Inputs(fault) => fault.line(),
+            Fault::Check(fault) => fault.line(),
+            Fault::Bundle { line } => numbered("41 bundle ", line),
             Fault::ReadFault => fixed("6 read fault\n"),
             Fault::WriteFault => fixed("7 write fault\n"),
             Fault::Memory => fixed("8 memory\n"),
             Fault::TooLong { limit } => numbered("10 too long ", limit),
-            Fault::Bundle { line } => numbered("41 bundle ", line),
-            Fault::Tile { instr } => numbered("11 tile ", instr),
-            Fault::Operand { block } => numbered("12 operand ", block),
-            Fault::Output { index } => numbered("14 output ", index),
         }
     }
 }
@@ -157,6 +302,22 @@ fn placed(text: &str, at: Place) -> FaultLine
     line.push_str(lines.format(at.line));
     line.push_str(":");
     line.push_str(columns.format(at.column));
+    line.push_str("\n");
+    line
+}
+
+/// A line that ends in two numbers.
+fn compared(text: &str, given: u32, wanted: u32) -> FaultLine
+    requires { length text.now ≤ 40 }
+    ensures { result.bytes ≡ text.now ++ decimal given ++ codes " " ++ decimal wanted ++ 10 ∷ [] }
+{
+    let mut firsts = Buffer::new();
+    let mut seconds = Buffer::new();
+    let mut line = FaultLine::new();
+    line.push_str(text);
+    line.push_str(firsts.format(given));
+    line.push_str(" ");
+    line.push_str(seconds.format(wanted));
     line.push_str("\n");
     line
 }

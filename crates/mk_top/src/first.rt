@@ -3,16 +3,14 @@
 mod checks;
 mod names;
 
-ghost use Rattle.std.specs.Prelude.{◌≡◌, ◌≤◌, IfOk, IfErr, length};
+ghost use Rattle.std.specs.Prelude.{◌≡◌, IfOk, IfErr};
 ghost use Rattle.mk_top.specs.declared.first.Program.{Program};
-ghost use Rattle.mk_top.specs.First.{HasFirstForm, IsSourceOf};
-ghost use Rattle.mk_top.specs.Reading.{IsFormRefusal, IsSourceRefusal};
+ghost use Rattle.mk_top.specs.First.{HasFirstForm};
+ghost use Rattle.mk_top.specs.Reading.{IsFormRefusal};
 
 use checks::is_program;
 use mk_ast::{Program as Tree, SourceRefusal};
 use mk_base::{Bytes, Place, Words};
-use mk_parse::parse;
-use mk_types::check_types;
 use names::names_of;
 use std::alloc::Global;
 
@@ -32,7 +30,7 @@ pub struct Program {
 const NOT_YET: SourceRefusal = SourceRefusal::NotYet(Place { line: 1, column: 1 });
 
 /// The program that a tree of the first form is.
-fn first_form(alloc: Global, tree: &Tree) -> Result<Program, SourceRefusal>
+pub(crate) fn first_form(alloc: Global, tree: &Tree) -> Result<Program, SourceRefusal>
     // The tree has the first form, as this program.
     ensures found { IfOk result (HasFirstForm tree.now) }
 
@@ -47,19 +45,4 @@ fn first_form(alloc: Global, tree: &Tree) -> Result<Program, SourceRefusal>
         return Err(NOT_YET);
     }
     Ok(program)
-}
-
-/// The program that a text of the first form spells.
-pub(crate) fn read_first(alloc: Global, text: &[u8]) -> Result<Program, SourceRefusal>
-    requires { length text.now ≤ 1048576 }
-
-    // The text spells one tree, which is well typed and has the first form as this program.
-    ensures found { IfOk result (IsSourceOf text.now) }
-
-    // What is refused spells no tree, or one that is not well typed, or one of another form.
-    ensures refused { IfErr result (IsSourceRefusal text.now) }
-{
-    let tree = parse(alloc, text)?;
-    let typed = check_types(alloc, tree)?;
-    first_form(alloc, typed.program())
 }

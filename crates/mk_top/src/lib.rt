@@ -1,10 +1,11 @@
-//! The top call: it carries out the command that its words ask for, `compile` or `check`, from the bytes
-//! that are read to the bytes that are written, and promises what the answer means.
+//! The top call: it carries out the command that its words ask for, `compile`, `check` or `eval`, from the
+//! bytes that are read to the bytes that are written, and promises what the answer means.
 #![tactic(auto)]
 
 mod bundle;
 mod command;
 mod compile;
+mod elements;
 mod fault;
 mod first;
 mod reading;
@@ -12,8 +13,7 @@ mod source;
 mod status;
 mod top;
 
-pub use command::Command;
-pub use fault::Fault;
+pub use fault::{CheckFault, Fault, InputFault, SourceFault};
 pub use first::Program;
 pub use status::{Status, code_of};
 pub use top::mask_main;

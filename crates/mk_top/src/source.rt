@@ -1,37 +1,31 @@
-ghost use Rattle.std.specs.Prelude.{◌≡◌, ◌≤◌, ℕ, Some, IfOk, IfErr, length};
-ghost use Rattle.mk_top.specs.declared.command.Command.TheVariants.{Compile};
-ghost use Rattle.mk_top.specs.Answers.{Compiles, ReadWhole, limit_of};
-ghost use Rattle.mk_top.specs.First.{IsSourceOf};
-ghost use Rattle.mk_top.specs.Running.{NotMade, NoText};
+//! Sources: read, typed, and then compiled or evaluated.
+
+ghost use Rattle.std.specs.Prelude.{◌≡◌, ◌≤◌, ◌<◌, ◌^◌, Some, IfOk, IfErr, length};
+ghost use Rattle.mk_top.specs.Words.{Compile, Eval};
+ghost use Rattle.mk_top.specs.Answers.{Compiles, Evaluates, ReadWhole, limit_of};
+ghost use Rattle.mk_top.specs.Sources.{IsSourceOf};
+ghost use Rattle.mk_top.specs.Running.{NotMade, NotTyped, NoText};
 
 use crate::compile::compile;
+use crate::elements::elements_line;
 use crate::fault::Fault;
-use crate::first::{Program, read_first};
+use crate::first::first_form;
 use crate::reading::whole_text;
-use mk_ast::SourceRefusal;
 use mk_base::{Bytes, Source};
 use mk_bundle::to_text;
+use mk_eval::eval;
+use mk_parse::parse;
+use mk_types::{Typed, check_types};
 use std::alloc::Global;
 
-/// The program that a source spells.
-fn program_of(alloc: Global, source: &[u8]) -> Result<Program, Fault>
+/// The well typed program that a source spells.
+pub(crate) fn typed_source(alloc: Global, source: &[u8]) -> Result<Typed, Fault>
     requires { length source.now ≤ 1048576 }
-    ensures program { IfOk result (IsSourceOf source.now) }
-    ensures fault { IfErr result (λ fault. (order : ℕ) → NotMade (Compile order) source.now fault) }
+    ensures typed { IfOk result (IsSourceOf source.now) }
+    ensures fault { IfErr result (NotTyped source.now) }
 {
-    match read_first(alloc, source) {
-        Ok(program) => Ok(program),
-        Err(SourceRefusal::NotYet(_)) => Err(Fault::NotYet),
-        Err(SourceRefusal::Syntax(at)) => Err(Fault::Syntax { at }),
-        Err(SourceRefusal::Unknown(at)) => Err(Fault::Unknown { at }),
-        Err(SourceRefusal::Twice(at)) => Err(Fault::Twice { at }),
-        Err(SourceRefusal::Kind(at)) => Err(Fault::Kind { at }),
-        Err(SourceRefusal::AssignInput(at)) => Err(Fault::AssignInput { at }),
-        Err(SourceRefusal::MapForm(at)) => Err(Fault::MapForm { at }),
-        Err(SourceRefusal::Memory) => Err(Fault::Memory),
-        // Limits and the values of indexes are not looked at yet.
-        Err(_) => unreachable!(),
-    }
+    let tree = parse(alloc, source)?;
+    Ok(check_types(alloc, tree)?)
 }
 
 /// The bundle text that a source is compiled to at an order.
@@ -41,9 +35,28 @@ fn text_of_source(alloc: Global, source: &[u8], order: u8) -> Result<Bytes, Faul
     ensures compiled { IfOk result (Compiles order (Some source.now)) }
     ensures fault { IfErr result (NotMade (Compile order) source.now) }
 {
-    let program = program_of(alloc, source)?;
+    let typed = typed_source(alloc, source)?;
+    let program = first_form(alloc, typed.program())?;
     let bundle = compile(alloc, &program, order)?;
     Ok(to_text(alloc, &bundle.code, &bundle.cert)?)
+}
+
+/// The line of the outputs that a source is evaluated to on these elements.
+fn text_of_outputs(
+    alloc: Global,
+    source: &[u8],
+    publics: &[u8],
+    secrets: &[u8],
+) -> Result<Bytes, Fault>
+    requires within { length source.now ≤ 1048576 }
+    requires publics { length publics.now < 2 ^ 32 }
+    requires secrets { length secrets.now < 2 ^ 32 }
+    ensures evaluated { IfOk result (Evaluates publics.now secrets.now (Some source.now)) }
+    ensures fault { IfErr result (NotMade (Eval publics.now secrets.now) source.now) }
+{
+    let typed = typed_source(alloc, source)?;
+    let outputs = eval(alloc, &typed, publics, secrets)?;
+    Ok(elements_line(alloc, outputs.as_slice())?)
 }
 
 /// The most bytes of a source.
@@ -63,4 +76,22 @@ pub(crate) fn compiled_text<S: Source>(
 {
     let source = whole_text(alloc, src, SOURCE_LIMIT)?;
     text_of_source(alloc, source.as_slice(), order)
+}
+
+/// Reads a source to its end, and answers the line of the outputs that it is evaluated to.
+pub(crate) fn evaluated_text<S: Source>(
+    alloc: Global,
+    src: &mut S,
+    publics: &[u8],
+    secrets: &[u8],
+) -> Result<Bytes, Fault>
+    requires publics { length publics.now < 2 ^ 32 }
+    requires secrets { length secrets.now < 2 ^ 32 }
+    ensures evaluated { IfOk result (Evaluates publics.now secrets.now (S.left src.old)) }
+    ensures read { IfOk result (λ _. ReadWhole (limit_of (Eval publics.now secrets.now)) (S.left src.old) (S.left src.new)) }
+    ensures fault { IfErr result (NoText (Eval publics.now secrets.now) (S.left src.old) (S.left src.new) (S.faults src.old) (S.faults src.new)) }
+    ensures never_falls { S.faults src.old ≤ S.faults src.new }
+{
+    let source = whole_text(alloc, src, SOURCE_LIMIT)?;
+    text_of_outputs(alloc, source.as_slice(), publics, secrets)
 }

@@ -2,11 +2,13 @@
 
 ghost use Rattle.std.specs.Prelude.{None};
 
+mod evaluations;
 mod sources;
 
 use super::*;
 use crate::compile::compile;
-use crate::first::read_first;
+use crate::first::first_form;
+use crate::source::typed_source;
 use mk_base::{Bytes, Failed, Items, MemSink, MemSource, Memory, Source, Words};
 use mk_bundle::{MOST_BYTES, read_bundle, to_text};
 use mk_rules::Bundle;
@@ -408,9 +410,12 @@ fn goes_round(alloc: Global, source: &str, order: u8) -> Result<bool, Fail> {
     if order == 0 || order > 8 || source.len() > 1_048_576 {
         return Ok(false);
     }
-    let program = read_first(alloc, source.as_bytes())
+    let typed = typed_source(alloc, source.as_bytes())
         .ok()
-        .ok_or("it is a program")?;
+        .ok_or("it is well typed")?;
+    let program = first_form(alloc, typed.program())
+        .ok()
+        .ok_or("it is of the first form")?;
     let bundle = compile(alloc, &program, order)
         .ok()
         .ok_or("there is memory")?;

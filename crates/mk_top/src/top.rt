@@ -1,16 +1,17 @@
-ghost use Rattle.std.specs.Prelude.{◌≡◌, ◌≢◌, ◌≤◌, ◌⊎◌, ℕ, List, Option, Some, None, [], codes, IfSome, IfOk, IfErr, OnOk, length};
+ghost use Rattle.std.specs.Prelude.{◌≡◌, ◌≢◌, ◌≤◌, ◌<◌, ◌^◌, ◌⊎◌, ℕ, List, Option, Some, None, [], codes, IfSome, IfOk, IfErr, OnOk, length};
 ghost use Rattle.mk_base.specs.Outside.{Rose};
-ghost use Rattle.mk_top.specs.declared.command.Command.{Command};
 ghost use Rattle.mk_top.specs.declared.fault.Fault.{Fault};
-ghost use Rattle.mk_top.specs.Words.{Asks, IsForm, IsNoForm};
+ghost use Rattle.mk_top.specs.Words.{Command, Compile, Check, Eval, SaysElements, Asks, IsForm, IsNoForm};
+ghost use Rattle.mk_top.specs.Forms.{AreElements, OfElements};
 ghost use Rattle.mk_top.specs.Faults.{status_of, fault_line};
-ghost use Rattle.mk_top.specs.Answers.{Compiles, Checks, Makes, Decides, Because, TakesWhole, TakesSome, Tells, answer_status, IsOrMemory, ReadsToEnd, ReadWhole, limit_of, WritesNothing, IsAnswerOf};
+ghost use Rattle.mk_top.specs.Answers.{Compiles, Checks, Evaluates, Makes, Decides, Because, TakesWhole, TakesSome, Tells, answer_status, IsOrMemory, ReadsToEnd, ReadWhole, limit_of, WritesNothing, IsAnswerOf};
 ghost use Rattle.mk_top.specs.Running.{Finished, Cut, StoppedAt, Stopped};
 
 use crate::bundle::check_bundle;
-use crate::command::{Command, command_asked};
+use crate::command::{Form, form_asked};
+use crate::elements::elements_of;
 use crate::fault::Fault;
-use crate::source::compiled_text;
+use crate::source::{compiled_text, evaluated_text};
 use crate::status::Status;
 use mk_base::{Sink, Source, Words, write_all};
 use std::alloc::Global;
@@ -44,8 +45,8 @@ fn compile_to<S: Source, O: Sink>(
     out: &mut O,
 ) -> Result<(), Fault>
     requires { (1 ≤ order) × (order ≤ 8) }
-    ensures finished { OnOk result (Finished (Command.Compile order) (S.left src.old) (S.left src.new) (O.taken out.old) (O.taken out.new)) }
-    ensures stopped { IfErr result (StoppedAt (Command.Compile order)
+    ensures finished { OnOk result (Finished (Compile order) (S.left src.old) (S.left src.new) (O.taken out.old) (O.taken out.new)) }
+    ensures stopped { IfErr result (StoppedAt (Compile order)
         (S.left src.old) (S.left src.new) (S.faults src.old) (S.faults src.new)
         (O.taken out.old) (O.taken out.new) (O.faults out.old) (O.faults out.new)) }
     ensures unwritten { IfErr result (λ fault. fault ≢ Fault.WriteFault → out.new ≡ out.old) }
@@ -58,8 +59,8 @@ fn compile_to<S: Source, O: Sink>(
 
 /// Reads a bundle, and writes that it is accepted.
 fn check_to<S: Source, O: Sink>(alloc: Global, src: &mut S, out: &mut O) -> Result<(), Fault>
-    ensures finished { OnOk result (Finished Command.Check (S.left src.old) (S.left src.new) (O.taken out.old) (O.taken out.new)) }
-    ensures stopped { IfErr result (StoppedAt Command.Check
+    ensures finished { OnOk result (Finished Check (S.left src.old) (S.left src.new) (O.taken out.old) (O.taken out.new)) }
+    ensures stopped { IfErr result (StoppedAt Check
         (S.left src.old) (S.left src.new) (S.faults src.old) (S.faults src.new)
         (O.taken out.old) (O.taken out.new) (O.faults out.old) (O.faults out.new)) }
     ensures unwritten { IfErr result (λ fault. fault ≢ Fault.WriteFault → out.new ≡ out.old) }
@@ -68,6 +69,51 @@ fn check_to<S: Source, O: Sink>(alloc: Global, src: &mut S, out: &mut O) -> Resu
 {
     check_bundle(alloc, src)?;
     put(out, b"accepted\n")
+}
+
+/// Reads a source, and writes the line of the outputs that it is evaluated to.
+fn eval_to<S: Source, O: Sink>(
+    alloc: Global,
+    publics: &[u8],
+    secrets: &[u8],
+    src: &mut S,
+    out: &mut O,
+) -> Result<(), Fault>
+    requires publics { length publics.now < 2 ^ 32 }
+    requires secrets { length secrets.now < 2 ^ 32 }
+    ensures finished { OnOk result (Finished (Eval publics.now secrets.now) (S.left src.old) (S.left src.new) (O.taken out.old) (O.taken out.new)) }
+    ensures stopped { IfErr result (StoppedAt (Eval publics.now secrets.now)
+        (S.left src.old) (S.left src.new) (S.faults src.old) (S.faults src.new)
+        (O.taken out.old) (O.taken out.new) (O.faults out.old) (O.faults out.new)) }
+    ensures unwritten { IfErr result (λ fault. fault ≢ Fault.WriteFault → out.new ≡ out.old) }
+    ensures reads { S.faults src.old ≤ S.faults src.new }
+    ensures writes { O.faults out.old ≤ O.faults out.new }
+{
+    let text = evaluated_text(alloc, src, publics, secrets)?;
+    put(out, text.as_slice())
+}
+
+/// The same on the elements that two words say.
+fn eval_words_to<S: Source, O: Sink>(
+    alloc: Global,
+    publics: &[u8],
+    secrets: &[u8],
+    src: &mut S,
+    out: &mut O,
+) -> Result<(), Fault>
+    requires publics { AreElements publics.now × (length publics.now < 2 ^ 32) }
+    requires secrets { AreElements secrets.now × (length secrets.now < 2 ^ 32) }
+    ensures finished { OnOk result (OfElements publics.now secrets.now (λ command. Finished command (S.left src.old) (S.left src.new) (O.taken out.old) (O.taken out.new))) }
+    ensures stopped { IfErr result (λ fault. OfElements publics.now secrets.now (λ command. StoppedAt command
+        (S.left src.old) (S.left src.new) (S.faults src.old) (S.faults src.new)
+        (O.taken out.old) (O.taken out.new) (O.faults out.old) (O.faults out.new) fault)) }
+    ensures unwritten { IfErr result (λ fault. fault ≢ Fault.WriteFault → out.new ≡ out.old) }
+    ensures reads { S.faults src.old ≤ S.faults src.new }
+    ensures writes { O.faults out.old ≤ O.faults out.new }
+{
+    let publics = elements_of(alloc, publics)?;
+    let secrets = elements_of(alloc, secrets)?;
+    eval_to(alloc, publics.as_slice(), secrets.as_slice(), src, out)
 }
 
 /// Carries out what the words ask for.
@@ -87,9 +133,13 @@ fn run<S: Source, O: Sink>(
     ensures reads { S.faults src.old ≤ S.faults src.new }
     ensures writes { O.faults out.old ≤ O.faults out.new }
 {
-    match command_asked(words).ok_or(Fault::Words)? {
-        Command::Compile { order } => compile_to(alloc, order, src, out),
-        Command::Check => check_to(alloc, src, out),
+    match form_asked(words) {
+        None => Err(Fault::Words),
+        Some(Form::Compile { order }) => compile_to(alloc, order, src, out),
+        Some(Form::Check) => check_to(alloc, src, out),
+        Some(Form::Eval { publics, secrets }) => {
+            eval_words_to(alloc, publics, secrets, src, out)
+        }
     }
 }
 
@@ -97,9 +147,11 @@ fn run<S: Source, O: Sink>(
 /// where the answer is not `Done`, one fault line to `err`.
 ///
 /// The forms of the words are `compile T`, T being one digit from 1 to 8, which reads a source of at
-/// most 1,048,576 bytes and writes the bundle text of its masked code at order T, and `check`, which
-/// reads a bundle text of at most 268,435,456 bytes and writes `accepted` and a line feed. All memory is
-/// taken before the first byte is written.
+/// most 1,048,576 bytes and writes the bundle text of its masked code at order T; `check`, which reads a
+/// bundle text of at most 268,435,456 bytes and writes `accepted` and a line feed; and `eval P S`, which
+/// reads a source and writes its outputs on the public inputs P and the secrets S as one word of elements
+/// and a line feed. A word of elements is `-` for none, or two hexadecimal digits of either case for each.
+/// All memory is taken before the first byte is written.
 pub fn mask_main<S: Source, O: Sink, E: Sink>(
     alloc: Global,
     words: &Words,
@@ -112,12 +164,16 @@ pub fn mask_main<S: Source, O: Sink, E: Sink>(
     ensures words_only { result ≡ Status.Words → IsNoForm words.now × (src.new ≡ src.old) }
 
     // What `compile` wrote is the text of the program's code and certificate, which is correct and private.
-    ensures compiled { (order : ℕ) → Asks words.now (Command.Compile order) → result ≡ Status.Done
+    ensures compiled { (order : ℕ) → Asks words.now (Compile order) → result ≡ Status.Done
         → (written : List ℕ) × Compiles order (S.left src.old) written × TakesWhole (O.taken out.old) written (O.taken out.new) }
 
     // What `check` accepts is private, whoever wrote it.
-    ensures checked { Asks words.now Command.Check → result ≡ Status.Done
+    ensures checked { Asks words.now Check → result ≡ Status.Done
         → Checks (S.left src.old) × TakesWhole (O.taken out.old) (codes "accepted\n") (O.taken out.new) }
+
+    // What `eval` wrote is the result of the program on the inputs.
+    ensures evaluated { (publics secrets : List ℕ) → Asks words.now (Eval publics secrets) → result ≡ Status.Done
+        → (written : List ℕ) × Evaluates publics secrets (S.left src.old) written × TakesWhole (O.taken out.old) written (O.taken out.new) }
 
     // Where the output failed, it took the command's text as far as a prefix.
     ensures cut { (command : Command) → Asks words.now command → result ≡ Status.WriteFault

@@ -1,7 +1,7 @@
 -- Each way that a run ends has one answer.
 use Rattle.std.proofs.Common.{IfSome, sym, subst}
 use Rattle.mk_bundle.proofs.Naming.{differ}
-use Rattle.mk_top.specs.declared.command.Command.TheVariants.{Compile}
+use Rattle.mk_top.specs.Words.{Compile, Eval}
 use Rattle.mk_top.specs.declared.status.Status.{Status}
 use Rattle.mk_top.specs.Answers.{Decides, IsOrMemory, answer_status}
 use Rattle.mk_top.proofs.Ends.{finished-at, stopped-at, stopped-because, stopped-decided, finished-decided}
@@ -10,6 +10,11 @@ use Rattle.mk_top.proofs.top.mask_main.Goals as goal
 pub returns-in-Ok-clause-compiled : goal.returns-in-Ok-clause-compiled
 returns-in-Ok-clause-compiled g c order asks done =
     let at = finished-at _ (Compile order) _ _ _ _ c.in-Ok.ensures.finished asks in
+    (at.written, at.makes, at.whole)
+
+pub returns-in-Ok-clause-evaluated : goal.returns-in-Ok-clause-evaluated
+returns-in-Ok-clause-evaluated g c publics secrets asks done =
+    let at = finished-at _ (Eval publics secrets) _ _ _ _ c.in-Ok.ensures.finished asks in
     (at.written, at.makes, at.whole)
 
 pub returns-in-Ok-clause-decided : goal.returns-in-Ok-clause-decided

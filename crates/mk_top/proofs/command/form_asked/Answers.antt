@@ -1,8 +1,8 @@
 -- The words are `check`, or `compile` and an order.
 use Rattle.std.proofs.Common.{ℕ, List, [], ◌∷◌, ◌≡◌, sym, ap, ◌∙◌}
 use Rattle.std.specs.Prelude.{codes}
-use Rattle.mk_top.proofs.Commands.{one-word, two-words, same-word}
-use Rattle.mk_top.proofs.command.command_asked.Goals as goal
+use Rattle.mk_top.proofs.Commands.{one-word, two-words, three-words, same-word}
+use Rattle.mk_top.proofs.command.form_asked.Goals as goal
 
 pub returns-in-len1-clause-asked : goal.returns-in-len1-clause-asked
 returns-in-len1-clause-asked c =
@@ -21,3 +21,16 @@ returns-in_ok-order-in-len2-clause-asked c =
     ∙ ap (λ (w : List ℕ). w ∷ c.order-item.result ∷ []) (sym c.as_slice-then-this-lt3.ensures.items ∙ name ∙ c.as_slice-then-this-lt3-2.ensures)
     ∙ ap (λ (w : List ℕ). codes "compile" ∷ w ∷ []) (sym c.as_slice-in-len2.ensures.items) in
     (c.as_slice-in-len2.result.now, words, c.in_ok-order-in-len2.ensures.found)
+
+pub returns-else-not-are_elements-2-clause-asked : goal.returns-else-not-are_elements-2-clause-asked
+returns-else-not-are_elements-2-clause-asked c =
+    let three : c.as_slice.result.now ≡ c.name-item-then-this-lt4.result ∷ c.publics-item.result ∷ c.secrets-item.result ∷ [] =
+    three-words c.as_slice.result.now c.name-item-then-this-lt4.result c.publics-item.result c.secrets-item.result
+    c.in-len3.len_at_least c.in-len3.len_below c.name-item-then-this-lt4.is c.publics-item.is c.secrets-item.is in
+    let name : c.as_slice-then-this-lt4.result.now ≡ c.as_slice-then-this-lt4-2.result.now = same-word _ _ (sym c.eq-then-this-lt4.ensures ∙ c.if-eq-3.true) in
+    let words : c.args.words.now ≡ codes "eval" ∷ c.as_slice-publics.result.now ∷ c.as_slice-secrets.result.now ∷ [] =
+    sym c.as_slice.ensures.items ∙ three
+    ∙ ap (λ (w : List ℕ). w ∷ c.publics-item.result ∷ c.secrets-item.result ∷ []) (sym c.as_slice-then-this-lt4.ensures.items ∙ name ∙ c.as_slice-then-this-lt4-2.ensures)
+    ∙ ap (λ (w : List ℕ). codes "eval" ∷ w ∷ c.secrets-item.result ∷ []) (sym c.as_slice-publics.ensures.items)
+    ∙ ap (λ (w : List ℕ). codes "eval" ∷ c.as_slice-publics.result.now ∷ w ∷ []) (sym c.as_slice-secrets.ensures.items) in
+    (words, (c.are_elements.ensures.0 c.if-not-are_elements.false, c.as_slice-publics.ensures.small), (c.are_elements-else-not-are_elements.ensures.0 c.if-not-are_elements-2.false, c.as_slice-secrets.ensures.small))
