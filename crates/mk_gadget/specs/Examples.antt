@@ -6,7 +6,7 @@ use Rattle.mk_code.specs.declared.instr.Instr.TheVariants.{Rnd, Copy, Add, Mul}
 use Rattle.mk_code.specs.Trace.{randoms, run}
 use Rattle.mk_code.specs.Counting.{sum_below, total, one_if_equal}
 use Rattle.mk_gadget.specs.Gadget.{Gadget, placed, placed_outs}
-use Rattle.mk_gadget.specs.Pairs.{pairs_upto, others}
+use Rattle.mk_gadget.specs.Pairs.{pairs, pairs_upto, others}
 use Rattle.mk_gadget.specs.Refresh.{refresh_sum, refresh_gadget}
 use Rattle.mk_gadget.specs.Product.{product_gadget}
 use Rattle.mk_gadget.specs.Template.{public_addition, scaling}
@@ -158,3 +158,8 @@ product_gadget-9-randoms = refl
 pub refresh_gadget-9-randoms : randoms (refresh_gadget 9).instrs ≡ 36
 unfolding pairs_upto refresh_sum randoms
 refresh_gadget-9-randoms = refl
+
+-- the pairs of four shares stand share by share
+pub pairs-4 : pairs 4 ≡ (0, 1) ∷ (0, 2) ∷ (0, 3) ∷ (1, 2) ∷ (1, 3) ∷ (2, 3) ∷ []
+unfolding pairs_upto
+pairs-4 = refl

@@ -191,10 +191,9 @@ fn each_place_of_a_product_of_two_shares(rt: HostRuntime) -> Result<(), Memory> 
     Ok(())
 }
 
-#[test]
-fn each_two_places_of_a_product_of_three_shares(rt: HostRuntime) -> Result<(), Memory> {
-    let runs = all_runs::<3>(rt.alloc(), 64)?;
-    let places = [
+/// The places of a product of three shares, each with the shares that its row or pair has, and its outputs.
+fn places_of_three_shares() -> [Seen; 27] {
+    [
         row(6, 1),
         pair(7, 1, 2),
         pair(8, 1, 2),
@@ -222,7 +221,13 @@ fn each_two_places_of_a_product_of_three_shares(rt: HostRuntime) -> Result<(), M
         output(23),
         output(26),
         output(29),
-    ];
+    ]
+}
+
+#[test]
+fn each_two_places_of_a_product_of_three_shares(rt: HostRuntime) -> Result<(), Memory> {
+    let runs = all_runs::<3>(rt.alloc(), 64)?;
+    let places = places_of_three_shares();
     for first in &places {
         for second in &places {
             let asked = asked(first.part, second.part, 3);

@@ -19,10 +19,12 @@ count : {X : Type 0} → (X → Bool) → List X → ℕ
 count p [] = 0
 count p (x ∷ xs) = cond (p x) (1 + count p xs) (count p xs)
 
+-- it is the library's count
 count-count_by : {X : Type 0} (p : X → Bool) (xs : List X) → count p xs ≡ count_by p xs
 unfolding count
 count-count_by p xs = is_count_by (count p) p refl (λ x xs. refl) xs
 
+-- how many images pass
 count-map : {X Y : Type 0} (p : Y → Bool) (f : X → Y) (xs : List X) → count p (map f xs) ≡ count (λ x. p (f x)) xs
 unfolding count
 count-map p f [] = refl
@@ -33,6 +35,7 @@ more-both : (b : Bool) (m n : ℕ) → m ≤ n → cond b (1 + m) m ≤ cond b (
 more-both true m n less = omega (arith, less)
 more-both false m n less = less
 
+-- one more on the greater side alone
 more-behind : (b : Bool) (m n : ℕ) → m ≤ n → m ≤ cond b (1 + n) n
 more-behind true m n less = omega (arith, less)
 more-behind false m n less = less
@@ -48,10 +51,12 @@ count-kept p wanted before (t ∷ ts) kept are = elim are [
   | inr other ↦ more-behind (p t) (count p kept) (count p ts) (count-kept p wanted (before ++ t ∷ []) ts kept other.1)
 ]
 
+-- the images of two lists one after the other
 map-append : {X Y : Type 0} (f : X → Y) (xs ys : List X) → map f (xs ++ ys) ≡ map f xs ++ map f ys
 map-append f [] ys = refl
 map-append f (x ∷ xs) ys = ap (λ zs. f x ∷ zs) (map-append f xs ys)
 
+-- one element at the end of the first list, or at the front of the second
 append-one : {X : Type 0} (xs : List X) (x : X) (ys : List X) → (xs ++ x ∷ []) ++ ys ≡ xs ++ x ∷ ys
 append-one [] x ys = refl
 append-one (z ∷ zs) x ys = ap (λ l. z ∷ l) (append-one zs x ys)

@@ -109,6 +109,7 @@ different-below ops earlier different (suc n) i j below first second same =
     (sym (tree_of-at ops i x earlier x_at) ∙ same ∙ tree_of-at ops j y earlier y_at) in
     different i j x x_at (y_at ∙ ap Some (sym equal))
 
+-- values with equal trees have equal numbers
 pub trees-different : (ops : List Op) → AreEarlier ops → AreDifferent ops
     → (i j : ℕ) → i < length ops → j < length ops → tree_of ops (Block i) ≡ tree_of ops (Block j) → i ≡ j
 trees-different ops earlier different i j first second same = different-below ops earlier different (suc i) i j (omega arith) first second same

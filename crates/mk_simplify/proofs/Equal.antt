@@ -17,6 +17,7 @@ both-first : (a b : Bool) → (a && b) ≡ true → a ≡ true
 both-first true b both = refl
 both-first false b both = absurd (cc)
 
+-- the second of two that hold
 both-second : (a b : Bool) → (a && b) ≡ true → b ≡ true
 both-second true b both = both
 both-second false b both = absurd (cc)
@@ -25,6 +26,7 @@ both-second false b both = absurd (cc)
 number-sound : (a b : ℕ) → (a == b) ≡ true → a ≡ b
 number-sound a b equal = eqb-true a b equal
 
+-- a number is equal to itself
 number-same : (a : ℕ) → (a == a) ≡ true
 number-same a = eq-eqb a a refl
 
@@ -35,6 +37,7 @@ operand-sound (Public a) (Public b) equal = ap Public (number-sound a b equal)
 operand-sound (Block a) (Block b) equal = ap Block (number-sound a b equal)
 operand-sound v w equal = absurd (false-not_true equal)
 
+-- an operand is equal to itself
 operand-same : (v : Operand) → operand_eq.ghosts.eq v v ≡ true
 operand-same (Secret a) = number-same a
 operand-same (Public a) = number-same a
@@ -77,6 +80,7 @@ op-sound (Mul v x) (Mul w y) equal =
 op-sound (Refresh v) (Refresh w) equal = ap Refresh (operand-sound v w equal)
 op-sound x y equal = absurd (false-not_true equal)
 
+-- an operator is equal to itself
 pub op-same : (x : Op) → op_eq.ghosts.eq x x ≡ true
 op-same (Const a) = number-same a
 op-same (PubAdd v x) = two-equal (operand_eq.ghosts.eq v v) (operand_eq.ghosts.eq x x) (operand-same v) (operand-same x)

@@ -10,6 +10,7 @@ neither-first : (a b : Bool) → (a || b) ≡ false → a ≡ false
 neither-first true b none = absurd (true-not_false none)
 neither-first false b none = refl
 
+-- the second of two of which none holds
 neither-second : (a b : Bool) → (a || b) ≡ false → b ≡ false
 neither-second true b none = absurd (true-not_false none)
 neither-second false b none = none

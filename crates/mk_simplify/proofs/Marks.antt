@@ -43,6 +43,7 @@ set-cases (y ∷ ys) zero (suc j) x z at = inl at
 set-cases (y ∷ ys) (suc k) zero x z at = inl at
 set-cases (y ∷ ys) (suc k) (suc j) x z at = elim (set-cases ys k j x z at) [ inl before ↦ inl before | inr same ↦ inr (ap suc same) ]
 
+-- a mark more leaves their number
 pub length-with_mark : (marks : List Bool) (v : Operand) → length (with_mark marks v) ≡ length marks
 length-with_mark marks (Secret k) = refl
 length-with_mark marks (Public k) = refl
@@ -77,10 +78,12 @@ pub all-stay : (vs : List Operand) (marks : List Bool) (k : ℕ) → IsMarked ma
 all-stay [] marks k is = is
 all-stay (v ∷ vs) marks k is = all-stay vs (with_mark marks v) k (mark-stays marks v k is)
 
+-- several marks leave their number
 pub all-length : (vs : List Operand) (marks : List Bool) → length (fold with_mark marks vs) ≡ length marks
 all-length [] marks = refl
 all-length (v ∷ vs) marks = all-length vs (with_mark marks v) ∙ length-with_mark marks v
 
+-- each of the operands is marked
 pub all-here : (vs : List Operand) (marks : List Bool) → AllByRecursion (IsBelow (length marks)) vs → AllByRecursion (OnValue (IsMarked (fold with_mark marks vs))) vs
 all-here [] marks below = tt
 all-here (v ∷ vs) marks below = (
@@ -88,6 +91,7 @@ all-here (v ∷ vs) marks below = (
   all-here vs (with_mark marks v) (subst (λ n. AllByRecursion (IsBelow n) vs) (sym (length-with_mark marks v)) below.1),
 )
 
+-- what is marked was marked before, or is one of the operands
 pub all-cases : (vs : List Operand) (marks : List Bool) (k : ℕ) → IsMarked (fold with_mark marks vs) k → IsMarked marks k ⊎ Contains vs (Block k)
 all-cases [] marks k is = inl is
 all-cases (v ∷ vs) marks k is = elim (all-cases vs (with_mark marks v) k is) [
@@ -104,6 +108,7 @@ none-marked zero k is = absurd (cc)
 none-marked (suc n) zero is = absurd (cc)
 none-marked (suc n) (suc k) is = none-marked n k is
 
+-- as many as asked for
 length-replicate : {X : Type 0} (n : ℕ) (x : X) → length (replicate n x) ≡ n
 length-replicate zero x = refl
 length-replicate (suc n) x = ap suc (length-replicate n x)

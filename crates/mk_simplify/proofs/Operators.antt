@@ -76,11 +76,12 @@ is_public-with f (Map map arg) = refl
 is_public-with f (Mul left right) = refl
 is_public-with f (Refresh arg) = refl
 
--- the first and the second of some operands
+-- the first of some operands
 first : List Operand → Operand
 first [] = Secret 0
 first (v ∷ vs) = v
 
+-- the second of some operands
 second : List Operand → Operand
 second [] = Secret 0
 second (v ∷ vs) = first vs

@@ -32,12 +32,14 @@ is_input (Tree.Leaf o) = false
 is_input (Tree.Unary o a) = false
 is_input (Tree.Binary o a b) = false
 
+-- the root of an operator over trees
 pub root-over : (o : Operator) (ts : List Tree) → root (over o ts) ≡ o
 unfolding root
 root-over o [] = refl
 root-over o (a ∷ []) = refl
 root-over o (a ∷ b ∷ more) = refl
 
+-- the trees below it
 pub kids-over : (o : Operator) (ts : List Tree) → length ts ≤ 2 → kids (over o ts) ≡ ts
 unfolding kids
 kids-over o [] few = refl
@@ -45,6 +47,7 @@ kids-over o (a ∷ []) few = refl
 kids-over o (a ∷ b ∷ []) few = refl
 kids-over o (a ∷ b ∷ c ∷ more) few = absurd (omega (arith, few))
 
+-- an operator over trees is no input
 pub is_input-over : (o : Operator) (ts : List Tree) → is_input (over o ts) ≡ false
 unfolding is_input
 is_input-over o [] = refl
@@ -114,6 +117,7 @@ pub tree_by-root : (f g : Operand → Tree) (x y : Op) → tree_by f x ≡ tree_
 tree_by-root f g x y same =
     sym (root-over (operator x) (map f (operands x))) ∙ ap root same ∙ root-over (operator y) (map g (operands y))
 
+-- their operands have equal trees
 pub tree_by-kids : (f g : Operand → Tree) (x y : Op) → tree_by f x ≡ tree_by g y → map f (operands x) ≡ map g (operands y)
 tree_by-kids f g x y same =
     sym (kids-over (operator x) (map f (operands x)) (omega (arith, operands-few x, length-map f (operands x))))

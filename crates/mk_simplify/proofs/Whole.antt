@@ -42,6 +42,7 @@ pub flat_map-map : {X Y Z : Type 0} (g : Y → List Z) (f : X → Y) (xs : List 
 flat_map-map g f [] = refl
 flat_map-map g f (x ∷ xs) = ap (λ l. g (f x) ++ l) (flat_map-map g f xs)
 
+-- what is made of equal parts
 flat_map-same : {X Y : Type 0} (f g : X → List Y) (xs : List X) → AllByRecursion (λ x. f x ≡ g x) xs → flat_map f xs ≡ flat_map g xs
 flat_map-same f g [] same = refl
 flat_map-same f g (x ∷ xs) same = ap (λ l. l ++ flat_map f xs) same.0 ∙ ap (λ l. g x ++ l) (flat_map-same f g xs same.1)
