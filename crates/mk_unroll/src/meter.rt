@@ -65,6 +65,14 @@ impl Meter {
         Ok(())
     }
 
+    /// Counts the beginning of a turn, which is one step.
+    pub(crate) fn turn(&mut self) -> Result<(), SourceRefusal>
+        ensures ok { OnOk result (self.new ≡ counted self.old (Step ∷ [])) }
+        ensures halted { IfErr result (λ e. Halts e (counted self.old (Step ∷ []))) }
+    {
+        Ok(self.step()?)
+    }
+
     /// Counts one operation on elements.
     pub(crate) fn operation(&mut self) -> Result<(), SourceRefusal>
         ensures ok { OnOk result (self.new ≡ counted self.old (Operation ∷ [])) }

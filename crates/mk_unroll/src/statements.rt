@@ -127,7 +127,7 @@ fn turn<'a>(
     ensures ok { OnOk result (meter.new ≡ counted meter.old (Step ∷ body_units frame.old.names (in_turn frame.old.turns name.now number) body.now)) }
     ensures halted { IfErr result (λ e. Halts e (counted meter.old (Step ∷ body_units frame.old.names (in_turn frame.old.turns name.now number) body.now))) }
 {
-    meter.step()?;
+    meter.turn()?;
     frame.turns.enter(name, number)?;
     execute_all(frame, meter, values, body)?;
     frame.turns.leave();

@@ -175,9 +175,9 @@ repeat-returns-clause-ok t c =
     ∙ ap (λ ns. counted c.args.meter.now (turns_units c.args.frame.now.names c.args.frame.now.turns c.args.name.now c.args.body.now ns))
     (turns_all c.args.from l.number c.args.to l.auto.number c.loop-number-test.false l.invariant.near)
 
-pub turn-returns-in_err-step-clause-halted : goal.turn-returns-in_err-step-clause-halted
-turn-returns-in_err-step-clause-halted t c =
+pub turn-returns-in_err-turn-clause-halted : goal.turn-returns-in_err-turn-clause-halted
+turn-returns-in_err-turn-clause-halted t c =
     let us = body_units c.args.frame.now.names (in_turn c.args.frame.now.turns c.args.name.now c.args.number) c.args.body.now in
-    let e = c.in_err-step.field-0.0 in
+    let e = c.in_err-turn.field-0.0 in
     told c.from_residual.result e (counted c.args.meter.now (Step ∷ us)) c.from_residual.ensures.1
-    (halts_front e c.args.meter.now (Step ∷ []) us c.in_err-step.ensures.halted)
+    (halts_front e c.args.meter.now (Step ∷ []) us c.in_err-turn.ensures.halted)
