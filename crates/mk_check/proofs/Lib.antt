@@ -1,4 +1,7 @@
 pub mod Lists
-pub mod Found
+pub mod Rows
+pub mod Alone
+pub mod Block
 pub mod Claimed
+pub mod Passed
 pub mod Verdicts

@@ -1,9 +1,10 @@
 -- Ranges of places, and where two lists first differ.
-use Rattle.std.proofs.Common.{◌≡◌, ℕ, zero, suc, ◌+◌, ◌<◌, ◌≤◌, List, [], ◌∷◌, length, take, get_or, slice_get, Some, None, sym, ◌∙◌, ap, subst, arith}
+use Rattle.std.proofs.Common.{◌≡◌, true, false, nat_lt, refl, ℕ, zero, suc, ◌+◌, ◌<◌, ◌≤◌, List, [], ◌∷◌, ◌++◌, length, take, get_or, slice_get, Some, None, sym, ◌∙◌, ap, subst, arith}
 use Rattle.std.specs.List.{range_with_len}
-use Rattle.std.proofs.lemmas.List.{ext_get_or, take_more_same, take_all}
+use Rattle.std.proofs.lemmas.List.{ext_get_or, take_more, take_more_same, take_all}
 use Rattle.std.proofs.lemmas.List.FromFn.{length-range_with_len, get_or-range_with_len}
-use Rattle.std.proofs.lemmas.Option.{slice_get_past, slice_get_within, get_or_from_slice_get}
+use Rattle.std.proofs.lemmas.Option.{slice_get_past, slice_get_within, get_or_from_slice_get, slice_get_read, slice_get-get_or, same_Some, none-some}
+use Rattle.std.proofs.lemmas.Bool.{ltb-true, ltb-false}
 use Rattle.mk_rules.specs.Places.{FirstMismatch}
 
 -- a range has neighbouring places
@@ -23,7 +24,7 @@ take-same-more xs ys place d y below same there equal =
     take_more_same xs ys place d below (slice_get_within ys place y there) same (equal ∙ sym (get_or_from_slice_get ys place y d there))
 
 -- nothing is there only behind the end
-slice_get_none-past : {X : Type 0} (xs : List X) (k : ℕ) → slice_get xs k ≡ None → length xs ≤ k
+pub slice_get_none-past : {X : Type 0} (xs : List X) (k : ℕ) → slice_get xs k ≡ None → length xs ≤ k
 slice_get_none-past [] k none = omega arith
 slice_get_none-past (x ∷ xs) zero none = absurd (cc)
 slice_get_none-past (x ∷ xs) (suc k) none = omega (arith, slice_get_none-past xs k none)
@@ -43,3 +44,48 @@ FirstMismatch-end xs ys place y ended within same there =
       before = subst (λ (k : ℕ). take k xs ≡ take k ys) at same;
       differ = λ e. let none : slice_get xs (length xs) ≡ None = slice_get_past xs (length xs) (omega arith) in let no : None ≡ Some y = sym none ∙ e ∙ there in absurd (cc);
     }
+
+-- the element that was read
+pub found-at : {X : Type 0} (xs zs : List X) (k : ℕ) (v : X) → zs ≡ xs → true ≡ nat_lt k (length zs) → v ≡ get_or zs k v → slice_get xs k ≡ Some v
+found-at xs zs k v same below read =
+    ap (λ (l : List _). slice_get l k) (sym same) ∙ slice_get_read zs (length zs) k v refl (ltb-true k (length zs) (sym below)) read
+
+-- no element was there
+pub none-at : {X : Type 0} (xs zs : List X) (k : ℕ) → zs ≡ xs → false ≡ nat_lt k (length zs) → slice_get xs k ≡ None
+none-at xs zs k same behind =
+    ap (λ (l : List _). slice_get l k) (sym same) ∙ slice_get_past zs k (ltb-false k (length zs) (sym behind))
+
+-- two lists that agree, and one equal element more
+pub agree-more : {X : Type 0} (xs ys : List X) (place : ℕ) (found wanted : X) → take place xs ≡ take place ys → slice_get xs place ≡ Some found
+    → slice_get ys place ≡ Some wanted → found ≡ wanted → take (place + 1) xs ≡ take (place + 1) ys
+agree-more xs ys place found wanted same here there equal =
+    take-same-more xs ys place found wanted (slice_get_within xs place found here) same there (get_or_from_slice_get xs place found found here ∙ equal)
+
+-- another element there
+pub other-at : {X : Type 0} (xs ys : List X) (place : ℕ) (found wanted : X) → take place xs ≡ take place ys → slice_get xs place ≡ Some found
+    → slice_get ys place ≡ Some wanted → (found ≡ wanted → ⊥) → FirstMismatch xs ys place
+other-at xs ys place found wanted same here there other = record {
+  before = same;
+  differ = λ e. other (same_Some found wanted (sym here ∙ e ∙ there));
+}
+
+-- none there
+pub ended-at : {X : Type 0} (xs ys : List X) (place : ℕ) (wanted : X) → take place xs ≡ take place ys → slice_get xs place ≡ None
+    → slice_get ys place ≡ Some wanted → FirstMismatch xs ys place
+ended-at xs ys place wanted same here there = record {
+  before = same;
+  differ = λ e. none-some wanted (sym here ∙ e ∙ there);
+}
+
+-- a front with the next element
+pub take-next : {X : Type 0} (xs : List X) (k : ℕ) (x : X) → slice_get xs k ≡ Some x → take (k + 1) xs ≡ take k xs ++ x ∷ []
+take-next xs k x there =
+    take_more xs k x (slice_get_within xs k x there) ∙ ap (λ (y : _). take k xs ++ y ∷ []) (get_or_from_slice_get xs k x x there)
+
+-- a list that goes on where the other one has ended
+pub goes_on-at : {X : Type 0} (xs ys : List X) (place : ℕ) → take place xs ≡ take place ys → place < length xs → length ys ≤ place → FirstMismatch xs ys place
+goes_on-at [] ys place same within ended = absurd (omega (arith, within))
+goes_on-at (x ∷ xs) ys place same within ended = record {
+  before = same;
+  differ = λ e. none-some (get_or (x ∷ xs) place x) (sym (slice_get_past ys place ended) ∙ sym e ∙ slice_get-get_or (x ∷ xs) place x within);
+}

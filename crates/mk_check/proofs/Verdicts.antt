@@ -1,111 +1,105 @@
--- What follows from a verdict.
-use Rattle.std.proofs.Common.{◌≡◌, ℕ, List, [], Result, Ok, Err, OnOk, inl, refl, sym, ◌∙◌, ap, subst}
-use Rattle.mk_code.specs.declared.instr.Instr.{Instr}
+-- What follows from the causes of refusals.
+use Rattle.std.proofs.Common.{◌≡◌, ℕ, ◌+◌, ◌⊎◌, List, Result, Ok, Err, OnOk, IfErr, inl, inr, ◌∙◌, subst, ap}
 use Rattle.mk_code.specs.Listing.{Listing}
 use Rattle.mk_code.specs.Private.{Private}
-use Rattle.mk_code.proofs.Columns.{columns-private}
+use Rattle.mk_ssa.specs.declared.Op.{Op}
+use Rattle.mk_ssa.specs.declared.Operand.{Operand as Value}
+use Rattle.mk_gadget.specs.Product.{product_gadget}
+use Rattle.mk_gadget.specs.Refresh.{refresh_gadget}
 use Rattle.mk_rules.specs.Claimed.{Claimed}
-use Rattle.mk_gadget.specs.Gadget.{Gadget}
-use Rattle.mk_rules.specs.Accepts.{Accepts, Outputs}
-use Rattle.mk_rules.specs.Tiles.{Tiles, laid, input_banks, first_place}
+use Rattle.mk_rules.specs.Accepts.{IsAccepted, Outputs}
+use Rattle.mk_rules.specs.Privacy.{HasElementImages}
+use Rattle.mk_rules.specs.Reaches.{Undoubled, links}
+use Rattle.mk_rules.specs.Tiles.{Tiles}
 use Rattle.mk_rules.specs.Wired.{Wired}
-use Rattle.mk_rules.specs.Places.{FirstUnwired, FirstMismatch, FirstOffTile, FirstWrongOutput}
-use Rattle.mk_rules.specs.Sums.{AreSums, sums_of}
+use Rattle.mk_rules.specs.Places.{FirstDoubled}
 use Rattle.mk_rules.proofs.Places.{FirstUnwired-not, FirstUnwired-only, FirstMismatch-not, FirstMismatch-only, FirstWrongOutput-only}
-use Rattle.mk_rules.proofs.Sums.{laid-of-sums, Undoubled-sums, share_column, AreColumns-sums}
 use Rattle.mk_rules.proofs.Claims.{FirstWrongOutput-not}
+use Rattle.mk_rules.proofs.Doubled.{FirstDoubled-not, FirstDoubled-block, FirstDoubled-value}
+use Rattle.mk_rules.proofs.BuiltIn.{built_in-given, accepted_built_in-private}
+use Rattle.mk_check.specs.Laying.{all_laid, IsOffTile}
+use Rattle.mk_check.specs.Passing.{IsDoubling}
+use Rattle.mk_check.specs.Verdict.{Refuses}
 use Rattle.mk_check.specs.declared.refusal.CheckRefusal.{CheckRefusal}
 use Rattle.mk_check.specs.declared.refusal.CheckRefusal.TheVariants.{Operand, Tile, Output, Doubled, Memory}
-use Rattle.mk_check.specs.Verdict.{IsVerdict, IsOrNoMemory}
 
--- a gadget of no instructions
-nothing : Gadget
-nothing = record { instrs = []; outs = [] }
+module _ (code : Listing) (cert : Claimed) where
+  -- a tile that is off is a cause where the blocks are wired
+  pub off-refuses : (e : CheckRefusal) → Wired code cert.blocks → (e ≡ Memory) ⊎ IsOffTile code cert.blocks e → (e ≡ Memory) ⊎ Refuses code cert e
+  off-refuses e wired (inl memory) = inl memory
+  off-refuses (Tile k) wired (inr off) = inr (wired, off)
+  off-refuses (Operand k) wired (inr off) = absurd off
+  off-refuses (Output k) wired (inr off) = absurd off
+  off-refuses (Doubled value k) wired (inr off) = absurd off
+  off-refuses Memory wired (inr off) = absurd off
 
-module _ (code : Listing) (cert : Claimed) (sums : AreSums cert.blocks) where
-  -- instructions of sums are the templates of the blocks
-  pub Tiles-sums : Wired code cert.blocks → code.instrs ≡ sums_of code cert.blocks → (product refresh : Gadget) → Tiles code product refresh cert.blocks
-  Tiles-sums wired made product refresh = made ∙ sym (laid-of-sums code product refresh cert.blocks sums wired)
+  -- a doubled value is one where all else holds
+  pub doubling-refuses : Wired code cert.blocks → Tiles code (product_gadget (code.order + 1)) (refresh_gadget (code.order + 1)) cert.blocks
+      → Outputs code (product_gadget (code.order + 1)) (refresh_gadget (code.order + 1)) cert.blocks cert.claims
+      → (r : Result (Unit {0}) CheckRefusal) → IfErr r (λ e. (e ≡ Memory) ⊎ IsDoubling code cert.blocks e)
+      → IfErr r (λ e. (e ≡ Memory) ⊎ Refuses code cert e)
+  doubling-refuses wired tiles outputs (Ok done) is = tt
+  doubling-refuses wired tiles outputs (Err e) (inl memory) = inl memory
+  doubling-refuses wired tiles outputs (Err (Doubled value k)) (inr first) = inr (wired, tiles, outputs, first)
+  doubling-refuses wired tiles outputs (Err (Operand k)) (inr first) = absurd first
+  doubling-refuses wired tiles outputs (Err (Tile k)) (inr first) = absurd first
+  doubling-refuses wired tiles outputs (Err (Output k)) (inr first) = absurd first
+  doubling-refuses wired tiles outputs (Err Memory) (inr first) = absurd first
 
-  -- where they first differ
-  pub FirstOffTile-sums : (k : ℕ) → Wired code cert.blocks → FirstMismatch code.instrs (sums_of code cert.blocks) k
-      → (product refresh : Gadget) → FirstOffTile code product refresh cert.blocks k
-  FirstOffTile-sums k wired first product refresh =
-      subst (λ (is : List Instr). FirstMismatch code.instrs is k) (sym (laid-of-sums code product refresh cert.blocks sums wired)) first
+  -- where none is doubled either, the rule accepts
+  pub undoubled-accepted : Wired code cert.blocks → Tiles code (product_gadget (code.order + 1)) (refresh_gadget (code.order + 1)) cert.blocks
+      → Outputs code (product_gadget (code.order + 1)) (refresh_gadget (code.order + 1)) cert.blocks cert.claims
+      → (r : Result (Unit {0}) CheckRefusal) → OnOk r (Undoubled (code.secrets + code.publics) (links code cert.blocks)) → OnOk r (IsAccepted code cert)
+  undoubled-accepted wired tiles outputs (Ok done) none = record { wired = wired; tiles = tiles; outputs = outputs; undoubled = none }
+  undoubled-accepted wired tiles outputs (Err e) none = tt
 
-  -- the rule holds of sums where its parts but the last do
-  pub Accepts-sums : Wired code cert.blocks → code.instrs ≡ sums_of code cert.blocks
-      → ((product refresh : Gadget) → Outputs code product refresh cert.blocks cert.claims)
-      → (product refresh : Gadget) → Accepts code product refresh cert
-  Accepts-sums wired made outputs product refresh = record {
-    wired = wired;
-    tiles = Tiles-sums wired made product refresh;
-    outputs = outputs product refresh;
-    undoubled = Undoubled-sums code _ cert.blocks sums;
-  }
+  -- and the code is private
+  pub ok-private : HasElementImages code → (r : Result (Unit {0}) CheckRefusal) → OnOk r (IsAccepted code cert) → OnOk r (Private code)
+  ok-private images (Ok done) accepted = accepted_built_in-private code cert images accepted
+  ok-private images (Err e) accepted = tt
 
-  -- accepted sums are private
-  Accepts-private : Accepts code nothing nothing cert → Private code
-  Accepts-private accepted =
-      columns-private code (share_column code)
-      (AreColumns-sums code cert.blocks sums accepted.wired (accepted.tiles ∙ laid-of-sums code nothing nothing cert.blocks sums accepted.wired))
+  -- no tile is off where the tiles hold
+  off-not : (k : ℕ) → Refuses code cert (Tile k) → Tiles code (product_gadget (code.order + 1)) (refresh_gadget (code.order + 1)) cert.blocks → ⊥
+  off-not k refused tiles = FirstMismatch-not code.instrs (all_laid code cert.blocks) k refused.1 tiles
 
-  pub verdict-private : (answer : Result (Unit {0}) CheckRefusal) → IsVerdict code cert answer → OnOk answer (Private code)
-  verdict-private (Ok done) verdict = Accepts-private (verdict nothing nothing)
-  verdict-private (Err refusal) verdict = tt
+  -- no output is wrong where they hold
+  output-not : (k : ℕ) → Refuses code cert (Output k) → Outputs code (product_gadget (code.order + 1)) (refresh_gadget (code.order + 1)) cert.blocks cert.claims → ⊥
+  output-not k refused outputs =
+      FirstWrongOutput-not code (product_gadget (code.order + 1)) (refresh_gadget (code.order + 1)) cert.blocks cert.claims (built_in-given code) refused.0 k refused.2 outputs
 
-  pub verdict-accepted : (answer : Result (Unit {0}) CheckRefusal) → IsVerdict code cert answer
-      → (product refresh : Gadget) → Accepts code product refresh cert → IsOrNoMemory answer (Ok tt)
-  verdict-accepted (Ok done) verdict product refresh accepted = inl refl
-  verdict-accepted (Err (Operand k)) verdict product refresh accepted = absurd (FirstUnwired-not code cert.blocks k verdict accepted.wired)
-  verdict-accepted (Err (Tile k)) verdict product refresh accepted =
-      absurd (FirstMismatch-not code.instrs (laid code product refresh (input_banks code) (first_place code) cert.blocks) k (verdict.1 product refresh) accepted.tiles)
-  verdict-accepted (Err (Output k)) verdict product refresh accepted =
-      absurd (FirstWrongOutput-not code product refresh cert.blocks cert.claims sums accepted.wired k (verdict.2 product refresh) accepted.outputs)
-  verdict-accepted (Err (Doubled value k)) verdict product refresh accepted = absurd verdict
-  verdict-accepted (Err Memory) verdict product refresh accepted = absurd verdict
+  -- what is accepted has no cause to be refused
+  pub accepted-not_refused : (e : CheckRefusal) → IsAccepted code cert → Refuses code cert e → ⊥
+  accepted-not_refused (Operand k) accepted refused = FirstUnwired-not code cert.blocks k refused accepted.wired
+  accepted-not_refused (Tile k) accepted refused = off-not k refused accepted.tiles
+  accepted-not_refused (Output k) accepted refused = output-not k refused accepted.outputs
+  accepted-not_refused (Doubled value k) accepted refused = FirstDoubled-not code cert.blocks value k refused.3 accepted.undoubled
+  accepted-not_refused Memory accepted refused = refused
 
-  pub verdict-unwired : (answer : Result (Unit {0}) CheckRefusal) → IsVerdict code cert answer
-      → (k : ℕ) → FirstUnwired code cert.blocks k → IsOrNoMemory answer (Err (Operand k))
-  verdict-unwired (Ok done) verdict k first = absurd (FirstUnwired-not code cert.blocks k first (verdict nothing nothing).wired)
-  verdict-unwired (Err (Operand j)) verdict k first =
-      inl (ap (λ (i : ℕ). Err (Operand i)) (FirstUnwired-only code cert.blocks j k verdict first))
-  verdict-unwired (Err (Tile j)) verdict k first = absurd (FirstUnwired-not code cert.blocks k first verdict.0)
-  verdict-unwired (Err (Output j)) verdict k first = absurd (FirstUnwired-not code cert.blocks k first verdict.0)
-  verdict-unwired (Err (Doubled value j)) verdict k first = absurd verdict
-  verdict-unwired (Err Memory) verdict k first = absurd verdict
-
-  pub verdict-off_tile : (answer : Result (Unit {0}) CheckRefusal) → IsVerdict code cert answer
-      → (product refresh : Gadget) (k : ℕ) → Wired code cert.blocks → FirstOffTile code product refresh cert.blocks k → IsOrNoMemory answer (Err (Tile k))
-  verdict-off_tile (Ok done) verdict product refresh k wired first =
-      absurd (FirstMismatch-not code.instrs (laid code product refresh (input_banks code) (first_place code) cert.blocks) k first (verdict product refresh).tiles)
-  verdict-off_tile (Err (Operand j)) verdict product refresh k wired first = absurd (FirstUnwired-not code cert.blocks j verdict wired)
-  verdict-off_tile (Err (Tile j)) verdict product refresh k wired first =
-      inl (ap (λ (i : ℕ). Err (Tile i))
-      (FirstMismatch-only code.instrs (laid code product refresh (input_banks code) (first_place code) cert.blocks) j k (verdict.1 product refresh) first))
-  verdict-off_tile (Err (Output j)) verdict product refresh k wired first =
-      absurd (FirstMismatch-not code.instrs (laid code product refresh (input_banks code) (first_place code) cert.blocks) k first (verdict.1 product refresh))
-  verdict-off_tile (Err (Doubled value j)) verdict product refresh k wired first = absurd verdict
-  verdict-off_tile (Err Memory) verdict product refresh k wired first = absurd verdict
-
-  pub verdict-wrong_output : (answer : Result (Unit {0}) CheckRefusal) → IsVerdict code cert answer
-      → (product refresh : Gadget) (k : ℕ) → Wired code cert.blocks → Tiles code product refresh cert.blocks
-      → FirstWrongOutput code product refresh cert.blocks cert.claims k → IsOrNoMemory answer (Err (Output k))
-  verdict-wrong_output (Ok done) verdict product refresh k wired tiles first =
-      absurd (FirstWrongOutput-not code product refresh cert.blocks cert.claims sums wired k first (verdict product refresh).outputs)
-  verdict-wrong_output (Err (Operand j)) verdict product refresh k wired tiles first = absurd (FirstUnwired-not code cert.blocks j verdict wired)
-  verdict-wrong_output (Err (Tile j)) verdict product refresh k wired tiles first =
-      absurd (FirstMismatch-not code.instrs (laid code product refresh (input_banks code) (first_place code) cert.blocks) j (verdict.1 product refresh) tiles)
-  verdict-wrong_output (Err (Output j)) verdict product refresh k wired tiles first =
-      inl (ap (λ (i : ℕ). Err (Output i))
-      (FirstWrongOutput-only code product refresh cert.blocks cert.claims j k (verdict.2 product refresh) first))
-  verdict-wrong_output (Err (Doubled value j)) verdict product refresh k wired tiles first = absurd verdict
-  verdict-wrong_output (Err Memory) verdict product refresh k wired tiles first = absurd verdict
-
-  pub verdict-output : (answer : Result (Unit {0}) CheckRefusal) → IsVerdict code cert answer
-      → (k : ℕ) → answer ≡ Err (Output k)
-      → Wired code cert.blocks
-      × ((product refresh : Gadget) → Tiles code product refresh cert.blocks × FirstWrongOutput code product refresh cert.blocks cert.claims k)
-  verdict-output answer verdict k same =
-      let held : IsVerdict code cert (Err (Output k)) = subst (IsVerdict code cert) same verdict in
-      (held.0, λ product refresh. (held.1 product refresh, held.2 product refresh))
+  -- there is one cause
+  pub refused-once : (e f : CheckRefusal) → Refuses code cert e → Refuses code cert f → e ≡ f
+  refused-once (Operand j) (Operand k) first second = ap (λ (i : ℕ). Operand i) (FirstUnwired-only code cert.blocks j k first second)
+  refused-once (Operand j) (Tile k) first second = absurd (FirstUnwired-not code cert.blocks j first second.0)
+  refused-once (Operand j) (Output k) first second = absurd (FirstUnwired-not code cert.blocks j first second.0)
+  refused-once (Operand j) (Doubled v k) first second = absurd (FirstUnwired-not code cert.blocks j first second.0)
+  refused-once (Tile j) (Operand k) first second = absurd (FirstUnwired-not code cert.blocks k second first.0)
+  refused-once (Tile j) (Tile k) first second = ap (λ (i : ℕ). Tile i) (FirstMismatch-only code.instrs (all_laid code cert.blocks) j k first.1 second.1)
+  refused-once (Tile j) (Output k) first second = absurd (off-not j first second.1)
+  refused-once (Tile j) (Doubled v k) first second = absurd (off-not j first second.1)
+  refused-once (Output j) (Operand k) first second = absurd (FirstUnwired-not code cert.blocks k second first.0)
+  refused-once (Output j) (Tile k) first second = absurd (off-not k second first.1)
+  refused-once (Output j) (Output k) first second =
+      ap (λ (i : ℕ). Output i)
+      (FirstWrongOutput-only code (product_gadget (code.order + 1)) (refresh_gadget (code.order + 1)) cert.blocks cert.claims j k first.2 second.2)
+  refused-once (Output j) (Doubled v k) first second = absurd (output-not j first second.2)
+  refused-once (Doubled u j) (Operand k) first second = absurd (FirstUnwired-not code cert.blocks k second first.0)
+  refused-once (Doubled u j) (Tile k) first second = absurd (off-not k second first.1)
+  refused-once (Doubled u j) (Output k) first second = absurd (output-not k second first.2)
+  refused-once (Doubled u j) (Doubled v k) first second =
+      let same : j ≡ k = FirstDoubled-block code cert.blocks u v j k first.3 second.3 in
+      let value : u ≡ v = FirstDoubled-value code cert.blocks u v k (subst (FirstDoubled code cert.blocks u) same first.3) second.3 in
+      ap (λ (w : Value). Doubled w j) value ∙ ap (λ (i : ℕ). Doubled v i) same
+  refused-once Memory f first second = absurd first
+  refused-once (Operand j) Memory first second = absurd second
+  refused-once (Tile j) Memory first second = absurd second
+  refused-once (Output j) Memory first second = absurd second
+  refused-once (Doubled u j) Memory first second = absurd second

@@ -1,35 +1,32 @@
 //! Whether a code's outputs are the claimed values.
 
-ghost use Rattle.std.specs.Prelude.{◌≡◌, ◌+◌, ◌*◌, ◌<◌, ◌^◌, ◌↔◌, ℕ, IsTrue, MatchOption, length};
-ghost use Rattle.std.specs.List.{range_with_len};
-ghost use Rattle.mk_gadget.specs.Gadget.{Gadget};
-ghost use Rattle.mk_rules.specs.Wired.{Wired};
+ghost use Rattle.std.specs.Prelude.{◌≡◌, ◌+◌, ◌*◌, ◌<◌, ◌^◌, ◌↔◌, [], ℕ, IsTrue, MatchOption, length, slice_index_or};
+ghost use Rattle.mk_gadget.specs.Product.{product_gadget};
+ghost use Rattle.mk_gadget.specs.Refresh.{refresh_gadget};
 ghost use Rattle.mk_rules.specs.Accepts.{Outputs};
 ghost use Rattle.mk_rules.specs.Places.{output_places, IsClaimed, FirstWrongOutput};
-ghost use Rattle.mk_rules.specs.Sums.{AreSums, sums_of};
+ghost use Rattle.mk_check.specs.Laying.{all_banks};
 
-use crate::tiles::first_share;
+use crate::tiles::value_number;
 use crate::wired::is_shared_there;
+use mk_base::Items;
 use mk_code::Code;
 use mk_ssa::{Op, Operand};
 
-/// Whether these are neighbouring places, from `first` on.
-fn is_bank(places: &[u32], first: u32) -> bool
-    ensures { IsTrue result ↔ (places.now ≡ range_with_len first (length places.now)) }
+/// Whether these are the places of a value's shares.
+fn is_bank(banks: &[Items<u32>], number: usize, places: &[u32]) -> bool
+    ensures { IsTrue result ↔ (slice_index_or banks.now number [] ≡ places.now) }
 {
-    for (share, place) in places.iter().enumerate() {
-        if u64::from(*place) != u64::from(first) + share as u64 {
-            return false;
-        }
+    match banks.get(number) {
+        Some(bank) => bank.as_slice() == places,
+        None => places.is_empty(),
     }
-    true
 }
 
 /// The places of the shares of output `k`.
 fn output(code: &Code, k: usize) -> &[u32]
     requires { k * (code.now.order + 1) < length code.now.outs }
-    ensures places { result.now ≡ output_places code.now k }
-    ensures count { length result.now ≡ code.now.order + 1 }
+    ensures { result.now ≡ output_places code.now k }
 {
     // `field` also ensures that the code fits together.
     let _fits = code.field();
@@ -39,13 +36,16 @@ fn output(code: &Code, k: usize) -> &[u32]
 }
 
 /// Whether there is a claim `k`, of a shared value that is there, and an output `k`, which is its bank.
-fn is_claimed(code: &Code, blocks: &[Op], claims: &[Operand], k: usize) -> bool
-    requires sums { AreSums blocks.now }
-    requires wired { Wired code.now blocks.now }
-    requires tiles { code.now.instrs ≡ sums_of code.now blocks.now }
+fn is_claimed(
+    code: &Code,
+    blocks: &[Op],
+    banks: &[Items<u32>],
+    claims: &[Operand],
+    k: usize,
+) -> bool
+    requires banks { banks.now ≡ all_banks code.now blocks.now }
     requires small { k < 2 ^ 32 }
-    ensures yes { IsTrue result → (product refresh : Gadget) → IsClaimed code.now product refresh blocks.now claims.now k }
-    ensures no { (product refresh : Gadget) → IsClaimed code.now product refresh blocks.now claims.now k → IsTrue result }
+    ensures { IsTrue result ↔ IsClaimed code.now (product_gadget (code.now.order + 1)) (refresh_gadget (code.now.order + 1)) blocks.now claims.now k }
 {
     // `field` also ensures that the code fits together.
     let _fits = code.field();
@@ -53,22 +53,25 @@ fn is_claimed(code: &Code, blocks: &[Op], claims: &[Operand], k: usize) -> bool
     match claims.get(k) {
         Some(value) if k * shares < code.outs().len() => {
             is_shared_there(code, blocks, *value)
-                && is_bank(output(code, k), first_share(code, *value))
+                && is_bank(banks, value_number(code, *value), output(code, k))
         }
         _ => false,
     }
 }
 
 /// The first output that isn't claimed or claim that isn't an output, if there is one.
-pub(crate) fn first_wrong_output(code: &Code, blocks: &[Op], claims: &[Operand]) -> Option<u32>
-    requires sums { AreSums blocks.now }
-    requires wired { Wired code.now blocks.now }
-    requires tiles { code.now.instrs ≡ sums_of code.now blocks.now }
+pub(crate) fn first_wrong_output(
+    code: &Code,
+    blocks: &[Op],
+    banks: &[Items<u32>],
+    claims: &[Operand],
+) -> Option<u32>
+    requires banks { banks.now ≡ all_banks code.now blocks.now }
     requires small { length claims.now < 2 ^ 32 }
-    ensures { MatchOption result ((product refresh : Gadget) → Outputs code.now product refresh blocks.now claims.now) (λ k. (product refresh : Gadget) → FirstWrongOutput code.now product refresh blocks.now claims.now k) }
+    ensures { MatchOption result (Outputs code.now (product_gadget (code.now.order + 1)) (refresh_gadget (code.now.order + 1)) blocks.now claims.now) (λ k. FirstWrongOutput code.now (product_gadget (code.now.order + 1)) (refresh_gadget (code.now.order + 1)) blocks.now claims.now k) }
 {
     for k in 0..claims.len() {
-        if !is_claimed(code, blocks, claims, k) {
+        if !is_claimed(code, blocks, banks, claims, k) {
             return Some(k as u32);
         }
     }

@@ -1,3 +1,4 @@
+use mk_base::Memory;
 use mk_ssa::Operand;
 use thiserror::Error;
 
@@ -21,4 +22,15 @@ pub enum CheckRefusal {
     /// Memory was wanted and not found.
     #[error("out of memory")]
     Memory,
+}
+
+impl From<Memory> for CheckRefusal {
+    ghost use Rattle.std.specs.Prelude.{◌≡◌};
+    ghost use Rattle.mk_check.specs.declared.refusal.CheckRefusal.TheVariants.{Memory};
+
+    ghost from_gives = { λ _ e. e ≡ Memory };
+
+    fn from(_memory: Memory) -> CheckRefusal {
+        CheckRefusal::Memory
+    }
 }

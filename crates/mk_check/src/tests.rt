@@ -1,6 +1,3 @@
-ghost use Rattle.std.specs.Prelude.{IfOk};
-ghost use Rattle.mk_rules.specs.Sums.{AreSums};
-
 use super::*;
 use mk_base::{Items, Memory};
 use mk_code::{CodeBuilder, Instr};
@@ -22,20 +19,11 @@ fn pair(alloc: Global, crossed: bool) -> Result<Code, Memory> {
     Ok(builder.finish(outs))
 }
 
-/// The certificate of these sums and claims.
-fn certificate(
-    alloc: Global,
-    sums: &[(Operand, Operand)],
-    claims: &[Operand],
-) -> Result<Cert, Memory>
-    ensures { IfOk result (λ cert. AreSums cert.blocks) }
-{
+/// The certificate of these blocks and claims.
+fn certificate(alloc: Global, blocks: &[Op], claims: &[Operand]) -> Result<Cert, Memory> {
     let mut cert = Cert::new(alloc);
-    for (left, right) in sums {
-        cert.push_block(Op::Add {
-            left: *left,
-            right: *right,
-        })?;
+    for op in blocks {
+        cert.push_block(*op)?;
     }
     for claim in claims {
         cert.push_claim(*claim)?;
@@ -50,18 +38,14 @@ fn answers(rt: HostRuntime) -> Result<(), Memory> {
     let b0 = Operand::Block(0);
     let output = |index| Err(CheckRefusal::Output { index });
     let tile = |instr| Err(CheckRefusal::Tile { instr });
-    let sum = [(s0, s1)];
-    let two = [(s0, s1), (b0, s1)];
-    let table: [(
-        bool,
-        &[(Operand, Operand)],
-        &[Operand],
-        Result<(), CheckRefusal>,
-    ); 8] = [
+    let add = |left, right| Op::Add { left, right };
+    let sum = [add(s0, s1)];
+    let two = [add(s0, s1), add(b0, s1)];
+    let table: [(bool, &[Op], &[Operand], Result<(), CheckRefusal>); 8] = [
         (false, &sum, &[b0], Ok(())),
         (
             false,
-            &[(s0, s2)],
+            &[add(s0, s2)],
             &[b0],
             Err(CheckRefusal::Operand { block: 0 }),
         ),
@@ -72,9 +56,9 @@ fn answers(rt: HostRuntime) -> Result<(), Memory> {
         (false, &sum, &[], output(0)),
         (false, &sum, &[b0, b0], output(1)),
     ];
-    for (crossed, sums, claims, wanted) in table {
+    for (crossed, blocks, claims, wanted) in table {
         let code = pair(alloc, crossed)?;
-        let cert = certificate(alloc, sums, claims)?;
+        let cert = certificate(alloc, blocks, claims)?;
         assert!(rt; check(alloc, &code, &cert) == wanted);
     }
     Ok(())

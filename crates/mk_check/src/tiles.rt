@@ -1,43 +1,159 @@
-//! Whether a code's instructions are those of sums.
+//! Whether a code's instructions are the templates of its blocks, and the banks of all values.
 
-ghost use Rattle.std.specs.Prelude.{◌≡◌, ◌<◌, ◌≤◌, ◌^◌, ◌↔◌, IsTrue, MatchOption, slice_get};
+ghost use Rattle.std.specs.Prelude.{◌≡◌, ◌⊎◌, ◌+◌, ◌*◌, ◌<◌, ◌≤◌, ◌^◌, ◌↔◌, ◌++◌, [], ℕ, IsTrue, IfOk, IfErr, length, take, option_to_list, slice_get, slice_index_or, Some};
+ghost use Rattle.std.specs.List.{range_with_len};
+ghost use Rattle.mk_code.specs.Counting.{AllBelow};
+ghost use Rattle.mk_code.specs.Listing.{FitsAt};
+ghost use Rattle.mk_ssa.specs.Kinds.{shared_operands, public_operands};
+ghost use Rattle.mk_gadget.specs.Gadget.{placement, moved, placed_outs};
+ghost use Rattle.mk_gadget.specs.Template.{built_in};
 ghost use Rattle.mk_rules.specs.Wired.{Wired};
-ghost use Rattle.mk_rules.specs.Places.{FirstMismatch};
-ghost use Rattle.mk_rules.specs.Sums.{AreSums, first_share as first_share_by_number, sums_of};
+ghost use Rattle.mk_rules.specs.Tiles as rule;
+ghost use Rattle.mk_rules.specs.Tiles.{value_number as number_by_operand, input_banks as banks_of_inputs, first_place};
+ghost use Rattle.mk_check.specs.Laying.{all_laid, all_banks, AgreesTo, IsOffTile};
 
+use crate::refusal::CheckRefusal;
+use crate::templates::Templates;
+use mk_base::{Items, Memory};
 use mk_code::{Code, Instr};
 use mk_ssa::{Op, Operand};
+use std::alloc::Global;
 
-/// The place of the first share of a value. The others follow.
-pub(crate) fn first_share(code: &Code, value: Operand) -> u32
-    requires { first_share_by_number code.now value < 2 ^ 32 }
-    ensures { result ≡ first_share_by_number code.now value }
+/// The places of shares, for each value by its number.
+pub(crate) type BankList = Items<Items<u32>>;
+
+/// The number of a value: first the secrets, then the publics, then the blocks.
+pub(crate) fn value_number(code: &Code, value: Operand) -> usize
+    ensures { result ≡ number_by_operand code.now value }
 {
-    let shares = u32::from(code.order()) + 1;
+    let _fits = code.field();
+    let secrets = code.secrets() as usize;
     match value {
-        Operand::Secret(k) => k * shares,
-        Operand::Public(k) => code.secrets() * shares + k,
-        Operand::Block(k) => code.secrets() * shares + code.publics() + k * shares,
+        Operand::Secret(k) => k as usize,
+        Operand::Public(k) => secrets + k as usize,
+        Operand::Block(k) => secrets + code.publics() as usize + k as usize,
     }
 }
 
-/// Instruction number `place` of the blocks, if they have as many.
-fn wanted(code: &Code, blocks: &[Op], place: usize) -> Option<Instr>
-    requires sums { AreSums blocks.now }
-    requires wired { Wired code.now blocks.now }
-    requires few { place ≤ 8388608 }
-    ensures { result ≡ slice_get (sums_of code.now blocks.now) place }
+/// Neighbouring places.
+fn range(alloc: Global, first: u32, count: u32) -> Result<Items<u32>, Memory>
+    requires { first + count < 2 ^ 32 }
+    ensures { IfOk result (λ places. places ≡ range_with_len first count) }
 {
-    // `field` also ensures that the code fits together.
+    let mut places = Items::new(alloc);
+    for k in 0..count {
+        places.push(first + k)?;
+    }
+    Ok(places)
+}
+
+/// The banks of the secrets and of the publics.
+fn input_banks(alloc: Global, code: &Code) -> Result<BankList, Memory>
+    ensures { IfOk result (λ banks. banks ≡ banks_of_inputs code.now) }
+{
     let _fits = code.field();
-    let shares = usize::from(code.order()) + 1;
-    let share = (place % shares) as u32;
-    match blocks.get(place / shares) {
-        Some(Op::Add { left, right }) => Some(Instr::Add {
-            left: first_share(code, *left) + share,
-            right: first_share(code, *right) + share,
-        }),
-        _ => None,
+    let shares = u32::from(code.order()) + 1;
+    let mut banks = Items::new(alloc);
+    for secret in 0..code.secrets() {
+        banks.push(range(alloc, secret * shares, shares)?)?;
+    }
+    for public in 0..code.publics() {
+        banks.push(range(alloc, code.secrets() * shares + public, 1)?)?;
+    }
+    Ok(banks)
+}
+
+/// The operands of an operator, in order.
+fn operands(op: &Op) -> (Option<Operand>, Option<Operand>)
+    ensures { option_to_list result.0 ++ option_to_list result.1 ≡ shared_operands op.now ++ public_operands op.now }
+{
+    match *op {
+        Op::Const { .. } => (None, None),
+        Op::PubSq { arg }
+        | Op::PubMap { arg, .. }
+        | Op::Lift { arg }
+        | Op::Sq { arg }
+        | Op::Map { arg, .. }
+        | Op::Refresh { arg } => (Some(arg), None),
+        Op::PubAdd { left, right }
+        | Op::PubMul { left, right }
+        | Op::Add { left, right }
+        | Op::AddPub { left, right }
+        | Op::Scale { left, right }
+        | Op::Mul { left, right } => (Some(left), Some(right)),
+    }
+}
+
+/// Appends the places of a value's shares.
+fn read(
+    places: &mut Items<u32>,
+    code: &Code,
+    banks: &[Items<u32>],
+    value: Operand,
+) -> Result<(), Memory>
+    ensures { IfOk result (λ _. places.new ≡ places.old ++ slice_index_or banks.now (number_by_operand code.now value) []) }
+{
+    if let Some(bank) = banks.get(value_number(code, value)) {
+        for place in bank.as_slice() {
+            places.push(*place)?;
+        }
+    }
+    Ok(())
+}
+
+/// The places that a block of this operator reads.
+fn reads(alloc: Global, code: &Code, banks: &[Items<u32>], op: &Op) -> Result<Items<u32>, Memory>
+    ensures { IfOk result (λ places. places ≡ rule.reads code.now banks.now op.now) }
+{
+    let mut places = Items::new(alloc);
+    let (first, second) = operands(op);
+    if let Some(value) = first {
+        read(&mut places, code, banks, value)?;
+    }
+    if let Some(value) = second {
+        read(&mut places, code, banks, value)?;
+    }
+    Ok(places)
+}
+
+/// Where a place of a gadget stands that is placed at `base`.
+fn placed(reads: &[u32], base: u32, place: u32) -> u32
+    requires { base + place < 2 ^ 32 }
+    ensures { result ≡ placement reads.now base place }
+{
+    match reads.get(place as usize) {
+        Some(read) => *read,
+        None => base + (place - reads.len() as u32),
+    }
+}
+
+/// An instruction of a gadget that is placed at `base`.
+fn placed_instr(code: &Code, reads: &[u32], base: u32, instr: Instr) -> Instr
+    requires fits { FitsAt code.now.field (length code.now.maps) 16777216 instr }
+    requires base { base ≤ 16777216 }
+    ensures { result ≡ moved (placement reads.now base) instr }
+{
+    let _fits = code.field();
+    match instr {
+        Instr::Rnd | Instr::Const { .. } => instr,
+        Instr::Copy { from } => Instr::Copy {
+            from: placed(reads, base, from),
+        },
+        Instr::Add { left, right } => Instr::Add {
+            left: placed(reads, base, left),
+            right: placed(reads, base, right),
+        },
+        Instr::Mul { left, right } => Instr::Mul {
+            left: placed(reads, base, left),
+            right: placed(reads, base, right),
+        },
+        Instr::Sq { from } => Instr::Sq {
+            from: placed(reads, base, from),
+        },
+        Instr::Map { map, from } => Instr::Map {
+            map,
+            from: placed(reads, base, from),
+        },
     }
 }
 
@@ -48,24 +164,103 @@ fn are_same(left: Instr, right: Instr) -> bool
     left == right
 }
 
-/// The first place at which the code's instructions and those of the blocks differ, or the length of
-/// the shorter of the two, if they aren't equal.
-pub(crate) fn first_mismatch(code: &Code, blocks: &[Op]) -> Option<u32>
-    requires sums { AreSums blocks.now }
-    requires wired { Wired code.now blocks.now }
-    ensures { MatchOption result (code.now.instrs ≡ sums_of code.now blocks.now) (λ k. FirstMismatch code.now.instrs (sums_of code.now blocks.now) k) }
+/// The place of the first instruction.
+fn first_instr(code: &Code) -> u32
+    ensures place { result ≡ first_place code.now }
+    ensures small { result ≤ 2097152 }
 {
-    // `field` also ensures that the code fits together.
     let _fits = code.field();
+    code.secrets() * (u32::from(code.order()) + 1) + code.publics()
+}
+
+/// The number of the instruction behind block `k`, whose first one has the number `start` and which
+/// reads these places, if the code's instructions up to there are the template's.
+fn behind_block(
+    code: &Code,
+    templates: &Templates,
+    blocks: &[Op],
+    k: usize,
+    op: &Op,
+    reads: &[u32],
+    start: u32,
+) -> Result<u32, CheckRefusal>
+    requires shares { templates.now ≡ code.now.order + 1 }
+    requires wired { Wired code.now blocks.now }
+    requires op { slice_get blocks.now k ≡ Some op.now }
+    requires reads { reads.now ≡ rule.reads code.now (all_banks code.now (take k blocks.now)) op.now }
+    requires start { start ≡ length (all_laid code.now (take k blocks.now)) }
+    requires within { start ≤ length code.now.instrs }
+    requires agrees { AgreesTo code.now blocks.now start }
+    ensures end { IfOk result (λ end. end ≡ start + length (built_in templates.now op.now).instrs) }
+    ensures within { IfOk result (λ end. end ≤ length code.now.instrs) }
+    ensures agrees { IfOk result (λ end. AgreesTo code.now blocks.now end) }
+    ensures off { IfErr result (λ e. IsOffTile code.now blocks.now e) }
+{
+    let _fits = code.field();
+    let base = first_instr(code) + start;
     let instrs = code.instrs().as_slice();
-    for (place, instr) in instrs.iter().enumerate() {
-        match wanted(code, blocks, place) {
-            Some(other) if are_same(*instr, other) => {}
-            _ => return Some(place as u32),
+    let mut next = 0;
+    while let Some(instr) = templates.instr(op, next) {
+        let wanted = placed_instr(code, reads, base, instr);
+        match instrs.get((start + next) as usize) {
+            Some(found) if are_same(*found, wanted) => next += 1,
+            _ => {
+                return Err(CheckRefusal::Tile {
+                    instr: start + next,
+                });
+            }
         }
     }
-    match wanted(code, blocks, instrs.len()) {
-        Some(_) => Some(instrs.len() as u32),
-        None => None,
+    Ok(start + next)
+}
+
+/// The bank of a block's value, which is placed at `base`.
+fn out_bank(
+    alloc: Global,
+    templates: &Templates,
+    op: &Op,
+    reads: &[u32],
+    base: u32,
+) -> Result<Items<u32>, Memory>
+    requires outs { AllBelow 16777216 (built_in templates.now op.now).outs }
+    requires base { base ≤ 16777216 }
+    ensures { IfOk result (λ bank. bank ≡ placed_outs reads.now base (built_in templates.now op.now)) }
+{
+    let mut bank = Items::new(alloc);
+    let mut share = 0;
+    while let Some(out) = templates.share_place(op, share) {
+        bank.push(placed(reads, base, out))?;
+        share += 1;
     }
+    Ok(bank)
+}
+
+/// The banks of all values, if the code's instructions are the templates of the blocks, one after the
+/// other; else the first instruction that isn't.
+pub(crate) fn lay(
+    alloc: Global,
+    code: &Code,
+    templates: &Templates,
+    blocks: &[Op],
+) -> Result<BankList, CheckRefusal>
+    requires shares { templates.now ≡ code.now.order + 1 }
+    requires wired { Wired code.now blocks.now }
+    ensures tiles { IfOk result (λ banks. code.now.instrs ≡ all_laid code.now blocks.now) }
+    ensures banks { IfOk result (λ banks. banks ≡ all_banks code.now blocks.now) }
+    ensures off { IfErr result (λ e. (e ≡ CheckRefusal.Memory) ⊎ IsOffTile code.now blocks.now e) }
+{
+    let _fits = code.field();
+    let mut banks = input_banks(alloc, code)?;
+    let mut start = 0;
+    for (k, op) in blocks.iter().enumerate() {
+        let places = reads(alloc, code, banks.as_slice(), op)?;
+        let end = behind_block(code, templates, blocks, k, op, places.as_slice(), start)?;
+        let base = first_instr(code) + start;
+        banks.push(out_bank(alloc, templates, op, places.as_slice(), base)?)?;
+        start = end;
+    }
+    if (start as usize) < code.instrs().len() {
+        return Err(CheckRefusal::Tile { instr: start });
+    }
+    Ok(banks)
 }

@@ -9,7 +9,7 @@ use mk_code::Code;
 use mk_ssa::{Op, Operand};
 
 /// Whether the value of the operator is public.
-fn is_public(op: &Op) -> bool
+pub(crate) fn is_public(op: &Op) -> bool
     ensures { result ≡ public_by_kind op.now }
 {
     matches!(

@@ -28,16 +28,16 @@ use Rattle.mk_rules.proofs.Standing.{bank, block_reads, banks_with, block_placed
 use Rattle.mk_rules.proofs.Front.{blocks-private}
 use Rattle.mk_rules.proofs.Marks.{link_of, undoubled-single}
 use Rattle.mk_rules.proofs.Asking.{Asking, asking-weak, asking-strong}
-use Rattle.mk_rules.proofs.Operators.{FitsBehind, IsGiven, places_behind, template-behind, strong-publics, strong-two, public-unshared, public-known, Each, wired-operands}
+use Rattle.mk_rules.proofs.Operators.{FitsBehind, IsGiven, places_behind, template-behind, strong-publics, strong-two, public-unshared, public-known, Each, wired-operands, numbers-there}
 
 -- whether the block with this number is public
-unfoldable public_at : List Op → ℕ → Bool
+unfoldable pub public_at : List Op → ℕ → Bool
 public_at [] k = false
 public_at (op ∷ ops) zero = is_public op
 public_at (op ∷ ops) (suc k) = public_at ops k
 
 -- whether the value with this number is public
-abbrev known_of : Listing → List Op → ℕ → Bool
+abbrev pub known_of : Listing → List Op → ℕ → Bool
 known_of code blocks x =
     if nat_lt x code.secrets then false
     else (if nat_lt x (code.secrets + code.publics) then true else public_at blocks (x - (code.secrets + code.publics)))
@@ -65,11 +65,11 @@ AreGiven code product refresh (op ∷ ops) = IsGiven code product refresh op × 
 
 module _ (code : Listing) (product refresh : Gadget) where
   -- the secrets
-  known-secret : (blocks : List Op) (x : ℕ) → x < code.secrets → known_of code blocks x ≡ false
+  pub known-secret : (blocks : List Op) (x : ℕ) → x < code.secrets → known_of code blocks x ≡ false
   known-secret blocks x below = rw (lt-ltb x code.secrets below) refl
 
   -- the publics
-  known-public : (blocks : List Op) (x : ℕ) → code.secrets ≤ x → x < code.secrets + code.publics → known_of code blocks x ≡ true
+  pub known-public : (blocks : List Op) (x : ℕ) → code.secrets ≤ x → x < code.secrets + code.publics → known_of code blocks x ≡ true
   known-public blocks x late below = rw (le-ltb x code.secrets late, lt-ltb x (code.secrets + code.publics) below) refl
 
   -- the blocks
@@ -82,7 +82,7 @@ module _ (code : Listing) (product refresh : Gadget) where
       rw (le-ltb x code.secrets late, le-ltb x (code.secrets + code.publics) later) (ap (public_at blocks) back)
 
   -- a shared operand that is there
-  shared-there : (before ops : List Op) (v : Operand) → IsSharedThere code before v
+  pub shared-there : (before ops : List Op) (v : Operand) → IsSharedThere code before v
       → (value_number code v < code.secrets + code.publics + length before) × (known_of code (before ++ ops) (value_number code v) ≡ false)
   shared-there before ops (operand.Secret k) there = (omega (arith, there), known-secret (before ++ ops) k there)
   shared-there before ops (operand.Public k) there = absurd there
@@ -91,7 +91,7 @@ module _ (code : Listing) (product refresh : Gadget) where
       (omega (arith, found.0), known-block (before ++ ops) k ∙ found.1)
 
   -- a public one
-  public-there : (before ops : List Op) (v : Operand) → IsPublicThere code before v
+  pub public-there : (before ops : List Op) (v : Operand) → IsPublicThere code before v
       → (value_number code v < code.secrets + code.publics + length before) × (known_of code (before ++ ops) (value_number code v) ≡ true)
   public-there before ops (operand.Secret k) there = absurd there
   public-there before ops (operand.Public k) there =
@@ -100,24 +100,14 @@ module _ (code : Listing) (product refresh : Gadget) where
       let found : (k < length before) × (public_at (before ++ ops) k ≡ true) = public_at-before before ops k true there in
       (omega (arith, found.0), known-block (before ++ ops) k ∙ found.1)
 
-  -- what holds of the numbers of such operands
-  numbers-there : (P : Operand → Type 0) (Q : ℕ → Type 0) (vs : List Operand) (x : ℕ) → ((v : Operand) → P v → Q (value_number code v)) → Each P vs
-      → Contains (map (value_number code) vs) x → Q x
-  unfolding Each
-  numbers-there P Q [] x holds each held = absurd (Contains-none x held)
-  numbers-there P Q (v ∷ vs) x holds each held = elim (Contains-cases (value_number code v) (map (value_number code) vs) x held) [
-    | inl same ↦ subst Q same (holds v each.0)
-    | inr more ↦ numbers-there P Q vs x holds each.1 more
-  ]
-
   -- what an operator's gadget asks for
-  abbrev operator_asks : Op → Type 0
+  abbrev pub operator_asks : Op → Type 0
   operator_asks op =
       Asking code.field code.maps (code.order + 1) (length (map (value_number code) (shared_operands op))) (length (map (value_number code) (public_operands op)))
       (template (code.order + 1) product refresh op) (kind op)
 
   -- it is that of a strong gadget, or of a steady one
-  asking-of : (op : Op) → IsGiven code product refresh op → operator_asks op
+  pub asking-of : (op : Op) → IsGiven code product refresh op → operator_asks op
   asking-of op given =
       let n : ℕ = code.order + 1 in
       let gadget : Gadget = template n product refresh op in
@@ -138,7 +128,7 @@ module _ (code : Listing) (product refresh : Gadget) where
       ]
 
   -- the operator as a block
-  abbrev block_of : (op : Op) → IsGiven code product refresh op → Block
+  abbrev pub block_of : (op : Op) → IsGiven code product refresh op → Block
   block_of op given = record {
     kind = kind op;
     shared = map (value_number code) (shared_operands op);
@@ -154,7 +144,7 @@ module _ (code : Listing) (product refresh : Gadget) where
   blocks_of (op ∷ ops) given = block_of op given.0 ∷ blocks_of ops given.1
 
   -- a wired operator behind others is a block that meets what blocks have to meet
-  block-good : (before : List Op) (op : Op) (ops : List Op) (given : IsGiven code product refresh op) → IsWired code before op
+  pub block-good : (before : List Op) (op : Op) (ops : List Op) (given : IsGiven code product refresh op) → IsWired code before op
       → IsBlock code.field code.maps (code.order + 1) (known_of code (before ++ op ∷ ops)) (code.secrets + code.publics + length before) (block_of op given)
   block-good before op ops given wired =
       let n : ℕ = code.order + 1 in
@@ -174,9 +164,9 @@ module _ (code : Listing) (product refresh : Gadget) where
         asking = record { few = asking.few; below = asking.below; even = asking.even };
         own = known-block (before ++ op ∷ ops) (length before) ∙ public_at-next before op ops ∙ public-known op;
         shared = λ x held.
-            numbers-there (IsSharedThere code before) (λ y. (y < v) × (known y ≡ false)) (shared_operands op) x (shared-there before (op ∷ ops)) operands.0 held;
+            numbers-there code (IsSharedThere code before) (λ y. (y < v) × (known y ≡ false)) (shared_operands op) x (shared-there before (op ∷ ops)) operands.0 held;
         publics = λ x held.
-            numbers-there (IsPublicThere code before) (λ y. (y < v) × (known y ≡ true)) (public_operands op) x (public-there before (op ∷ ops)) operands.1 held;
+            numbers-there code (IsPublicThere code before) (λ y. (y < v) × (known y ≡ true)) (public_operands op) x (public-there before (op ∷ ops)) operands.1 held;
         unshared = λ public. shared ∙ public-unshared op public;
         two = λ strong. omega (arith, shared, strong-two op strong);
         fit = subst (λ (m : ℕ). AllFit code.field (length code.maps) m (template n product refresh op).instrs) places behind.fit;
@@ -210,7 +200,7 @@ module _ (code : Listing) (product refresh : Gadget) where
   flat_map-numbers banks (v ∷ vs) = ap (λ (l : List ℕ). bank banks (value_number code v) ++ l) (flat_map-numbers banks vs)
 
   -- a block reads what the operator reads
-  reads-same : (banks : List (List ℕ)) (op : Op) (given : IsGiven code product refresh op) → reads code banks op ≡ block_reads banks (block_of op given)
+  pub reads-same : (banks : List (List ℕ)) (op : Op) (given : IsGiven code product refresh op) → reads code banks op ≡ block_reads banks (block_of op given)
   reads-same banks op given =
       let at : Operand → List ℕ = λ v. slice_index_or banks (value_number code v) [] in
       flat_map-append at (shared_operands op) (public_operands op)

@@ -4,7 +4,6 @@ use Rattle.std.specs.List.{flat_map, AllByRecursion}
 use Rattle.std.proofs.lemmas.Bool.{cases_lt}
 use Rattle.std.proofs.lemmas.List.{length-append, take-append-drop, drop-drop}
 use Rattle.std.proofs.lemmas.List.Elements.{recursion_from_All, All-from_recursion}
-use Rattle.std.proofs.lemmas.List.FromFn.{length-range_with_len}
 use Rattle.std.proofs.Math.Seq.{take-append_seam, drop-append-add}
 use Rattle.std.proofs.Math.Nat.{mul-le-mul_right}
 use Rattle.mk_code.specs.Listing.{Listing}
@@ -15,8 +14,8 @@ use Rattle.mk_rules.specs.Tiles.{banks_of, value_number}
 use Rattle.mk_rules.specs.Wired.{IsSharedThere, Wired}
 use Rattle.mk_rules.specs.Accepts.{Outputs}
 use Rattle.mk_rules.specs.Places.{IsClaimed, FirstWrongOutput}
-use Rattle.mk_rules.specs.Sums.{AreSums, first_share}
-use Rattle.mk_rules.proofs.Sums.{bank-of-sums}
+use Rattle.mk_rules.proofs.Operators.{IsGiven}
+use Rattle.mk_rules.proofs.Laid.{bank-long}
 
 -- pieces of n elements, one for each of xs, are the list if each stands in its place
 joined : {X : Type 0} (n : ℕ) (f : X → List ℕ) (P : X → Type 0) (xs : List X) (outs : List ℕ) → length outs ≤ length xs * n
@@ -71,15 +70,15 @@ module _ (code : Listing) (product refresh : Gadget) (blocks : List Op) (claims 
       (IsSharedThere code blocks) claims code.outs short (λ k below. (at k below).claim) in
       record { there = All-from_recursion (IsSharedThere code blocks) claims both.0; outs = both.1 }
 
-  -- no first one is wrong where the blocks are sums and the outputs are claimed
-  pub FirstWrongOutput-not : AreSums blocks → Wired code blocks → (k : ℕ) → FirstWrongOutput code product refresh blocks claims k
+  -- no first one is wrong where the blocks are wired and the outputs are claimed
+  pub FirstWrongOutput-not : ((op : Op) → IsGiven code product refresh op) → Wired code blocks → (k : ℕ) → FirstWrongOutput code product refresh blocks claims k
       → Outputs code product refresh blocks claims → ⊥
-  FirstWrongOutput-not sums wired k first outputs =
+  FirstWrongOutput-not given wired k first outputs =
       let n : ℕ = code.order + 1 in
       let bank : Operand → List ℕ = λ v. slice_index_or (banks_of code product refresh blocks) (value_number code v) [] in
       let all : AllByRecursion (IsSharedThere code blocks) claims = recursion_from_All (IsSharedThere code blocks) claims outputs.there in
       let size : (v : Operand) → IsSharedThere code blocks v → length (bank v) ≡ n = λ v there.
-      ap length (bank-of-sums code product refresh blocks v sums wired there) ∙ length-range_with_len (first_share code v) n in
+      bank-long code product refresh blocks v wired given there in
       let count : length code.outs ≡ length claims * n = ap length outputs.outs ∙ length-parted n bank (IsSharedThere code blocks) claims all size in
       let claimed : k < length claims → IsClaimed code product refresh blocks claims k = λ below. record {
         output = omega (arith, count, mul-le-mul_right n below);

@@ -43,7 +43,7 @@ left_out-held f (x ∷ xs) y out held = elim (Contains-cases x xs y held) [
 ]
 
 -- the bank of a secret
-secret-bank : (code : Listing) (x : ℕ) → x < code.secrets → bank (input_banks code) x ≡ range_with_len (x * (code.order + 1)) (code.order + 1)
+pub secret-bank : (code : Listing) (x : ℕ) → x < code.secrets → bank (input_banks code) x ≡ range_with_len (x * (code.order + 1)) (code.order + 1)
 secret-bank code x below =
     let n : ℕ = code.order + 1 in
     let fronts : List (List ℕ) = map (λ k. range_with_len (k * n) n) (range_with_len 0 code.secrets) in
@@ -53,7 +53,7 @@ secret-bank code x below =
     ∙ get_or-map-range_with_len (λ k. range_with_len (k * n) n) 0 code.secrets x x [] below (omega arith)
 
 -- the bank of a public input
-public-bank : (code : Listing) (x : ℕ) → code.secrets ≤ x → x < code.secrets + code.publics
+pub public-bank : (code : Listing) (x : ℕ) → code.secrets ≤ x → x < code.secrets + code.publics
     → bank (input_banks code) x ≡ (code.secrets * (code.order + 1) + (x - code.secrets)) ∷ []
 public-bank code x late below =
     let n : ℕ = code.order + 1 in
@@ -70,7 +70,7 @@ secret-end code x below =
     omega (arith, step)
 
 -- the banks of the inputs
-input-banks : (code : Listing) (known : ℕ → Bool) → AreInputs code known
+pub input-banks : (code : Listing) (known : ℕ → Bool) → AreInputs code known
     → AreBanks (code.order + 1) known (code.secrets + code.publics) (first_place code) (input_banks code)
 unfolding AllBelow
 input-banks code known inputs =

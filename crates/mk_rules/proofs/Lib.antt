@@ -14,7 +14,11 @@ pub mod Agreeing
 pub mod Suffix
 pub mod Front
 pub mod Marks
+pub mod Leading
+pub mod Doubled
+pub mod Laid
 pub mod Asking
 pub mod Operators
 pub mod Accepted
+pub mod BuiltIn
 pub mod Worked

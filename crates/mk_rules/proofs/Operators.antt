@@ -1,7 +1,7 @@
 -- The operators as blocks: their templates fit, their operands are of their kind, and what is seen of them
 -- depends on what they ask for.
-use Rattle.std.proofs.Common.{◌≡◌, ℕ, zero, suc, ◌+◌, ◌-◌, ◌*◌, ◌<◌, ◌≤◌, List, [], ◌∷◌, length, map, replicate, nat_eq, if◌then◌else◌, sym, refl, subst, arith}
-use Rattle.std.specs.List.{range_with_len}
+use Rattle.std.proofs.Common.{◌≡◌, ℕ, zero, suc, ◌+◌, ◌-◌, ◌*◌, ◌<◌, ◌≤◌, List, [], ◌∷◌, length, map, replicate, nat_eq, if◌then◌else◌, sym, refl, subst, arith, inl, inr}
+use Rattle.std.specs.List.{range_with_len, Contains}
 use Rattle.std.proofs.lemmas.List.{length-replicate}
 use Rattle.std.proofs.lemmas.List.FromFn.{length-range_with_len, length-map-range_with_len}
 use Rattle.std.proofs.Math.Dec.{eqb-suc-zero}
@@ -19,8 +19,10 @@ use Rattle.mk_ssa.specs.Kinds.{Public, Strong, kind, is_public, shared_operands,
 use Rattle.mk_gadget.specs.Gadget.{Gadget}
 use Rattle.mk_gadget.specs.Template.{single, rows, lift, template}
 use Rattle.mk_gadget.proofs.AddTemplate.{AllBelow-range}
+use Rattle.mk_rules.specs.Tiles.{value_number}
 use Rattle.mk_rules.specs.Wired.{IsSharedThere, IsPublicThere, IsWired}
 use Rattle.mk_rules.specs.Privacy.{IsTemplate}
+use Rattle.mk_rules.proofs.Probes.{Contains-none, Contains-cases}
 use Rattle.mk_rules.proofs.Standing.{places_of, is_known}
 
 -- a gadget behind some places of operands: its instructions fit there, and its out bank has this many places,
@@ -196,3 +198,13 @@ wired-operands code before (Sq arg) wired = ((wired, tt), tt)
 wired-operands code before (Map k arg) wired = ((wired.1, tt), tt)
 wired-operands code before (Mul left right) wired = ((wired.0, (wired.1, tt)), tt)
 wired-operands code before (Refresh arg) wired = ((wired, tt), tt)
+
+-- what holds of the numbers of some operands
+pub numbers-there : (code : Listing) (P : Operand → Type 0) (Q : ℕ → Type 0) (vs : List Operand) (x : ℕ)
+    → ((v : Operand) → P v → Q (value_number code v)) → Each P vs → Contains (map (value_number code) vs) x → Q x
+unfolding Each
+numbers-there code P Q [] x holds each held = absurd (Contains-none x held)
+numbers-there code P Q (v ∷ vs) x holds each held = elim (Contains-cases (value_number code v) (map (value_number code) vs) x held) [
+  | inl same ↦ subst Q same (holds v each.0)
+  | inr more ↦ numbers-there code P Q vs x holds each.1 more
+]

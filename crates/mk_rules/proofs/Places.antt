@@ -72,7 +72,7 @@ FirstUnwired-before code blocks j k below first later =
     (wired-at code [] (take k blocks) j at.0 later.before (slice_get-take blocks k j below ∙ at.1)))
 
 -- there is one first
-only : (j k : ℕ) → (j < k → ⊥) → (k < j → ⊥) → j ≡ k
+pub only : (j k : ℕ) → (j < k → ⊥) → (k < j → ⊥) → j ≡ k
 only j k not_before not_behind = elim (cases_order j k) [
   | inl same ↦ same
   | inr other ↦ elim other [ inl before ↦ absurd (not_before before) | inr behind ↦ absurd (not_behind behind) ]

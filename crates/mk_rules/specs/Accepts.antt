@@ -6,6 +6,8 @@ use Rattle.mk_ssa.specs.declared.Op.{Op}
 use Rattle.mk_ssa.specs.declared.Operand.{Operand}
 use Rattle.mk_rules.specs.Claimed.{Claimed}
 use Rattle.mk_gadget.specs.Gadget.{Gadget}
+use Rattle.mk_gadget.specs.Product.{product_gadget}
+use Rattle.mk_gadget.specs.Refresh.{refresh_gadget}
 use Rattle.mk_rules.specs.Tiles.{Tiles, banks_of, value_number}
 use Rattle.mk_rules.specs.Wired.{Wired, IsSharedThere}
 use Rattle.mk_rules.specs.Reaches.{Undoubled, links}
@@ -22,3 +24,7 @@ pub record Accepts (code : Listing) (product refresh : Gadget) (cert : Claimed) 
   pub tiles : Tiles code product refresh cert.blocks
   pub outputs : Outputs code product refresh cert.blocks cert.claims
   pub undoubled : Undoubled (code.secrets + code.publics) (links code cert.blocks)
+
+-- the rule, with the product and the refresh that emitters append
+abbrev pub IsAccepted : Listing → Claimed → Type 0
+IsAccepted code cert = Accepts code (product_gadget (code.order + 1)) (refresh_gadget (code.order + 1)) cert

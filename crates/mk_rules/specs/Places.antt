@@ -6,6 +6,7 @@ use Rattle.mk_ssa.specs.declared.Operand.{Operand}
 use Rattle.mk_gadget.specs.Gadget.{Gadget}
 use Rattle.mk_rules.specs.Tiles.{banks_of, value_number, laid, input_banks, first_place}
 use Rattle.mk_rules.specs.Wired.{IsSharedThere, IsWired, Wired}
+use Rattle.mk_rules.specs.Reaches.{Reaches, links}
 
 -- the blocks before block k are wired, and it isn't
 pub record FirstUnwired (code : Listing) (blocks : List Op) (k : ℕ) : Type 0 where
@@ -38,3 +39,16 @@ pub record FirstWrongOutput (code : Listing) (product refresh : Gadget) (blocks 
   pub before : (j : ℕ) → j < k → IsClaimed code product refresh blocks claims j
   pub more : (k < length claims) ⊎ (k * (code.order + 1) < length code.outs)
   pub fails : ¬ IsClaimed code product refresh blocks claims k
+
+-- the value with this number reaches both places of the strong block s
+abbrev pub IsDoubled : Listing → List Op → ℕ → ℕ → Type 0
+IsDoubled code blocks v s =
+    Reaches (code.secrets + code.publics) (links code blocks) v s 0 × Reaches (code.secrets + code.publics) (links code blocks) v s 1
+
+-- a shared value that is there reaches both places of this block, none before it by number does, and no
+-- value reaches both places of a block before
+pub record FirstDoubled (code : Listing) (blocks : List Op) (value : Operand) (block : ℕ) : Type 0 where
+  pub there : IsSharedThere code blocks value
+  pub doubled : IsDoubled code blocks (value_number code value) block
+  pub least : (v : ℕ) → v < value_number code value → ¬ IsDoubled code blocks v block
+  pub before : (s v : ℕ) → s < block → ¬ IsDoubled code blocks v s

@@ -1,0 +1,180 @@
+//! The templates of all operators, by their instructions and their shares.
+
+ghost use Rattle.std.specs.Prelude.{◌≡◌, ◌≢◌, ◌≤◌, ◌<◌, ◌+◌, ◌*◌, ℕ, Some, IfOk, length, slice_get};
+ghost use Rattle.std.specs.List.{range_with_len};
+ghost use Rattle.mk_base.specs.declared.TheConstants.{TOP_ORDER};
+ghost use Rattle.mk_ssa.specs.Kinds.{Strong, kind, shared_operands, public_operands};
+ghost use Rattle.mk_gadget.specs.Product.{product_gadget};
+ghost use Rattle.mk_gadget.specs.Refresh.{refresh_gadget};
+ghost use Rattle.mk_gadget.specs.Template.{built_in};
+
+use crate::wired::is_public;
+use mk_base::{Items, Memory};
+use mk_code::{Code, CodeBuilder, Instr};
+use mk_field::{Field, Gf2};
+use mk_gadget::{emit_mul, emit_refresh};
+use mk_share::{Bank, with_order};
+use mk_ssa::Op;
+use std::alloc::Global;
+use std::marker::Model;
+
+/// The templates of all operators with some number of shares. Those of the product and of the refresh
+/// stand in codes of their own, whose inputs are the operands.
+#[derive(Drop)]
+pub(crate) struct Templates {
+    shares: u32,
+    product: Code,
+    refresh: Code,
+}
+
+impl Model for Templates {
+    ghost use Rattle.std.specs.Prelude.{◌≡◌, ◌≤◌, ℕ};
+    ghost use Rattle.mk_gadget.specs.Product.{product_gadget};
+    ghost use Rattle.mk_gadget.specs.Refresh.{refresh_gadget};
+
+    ghost Value = { ℕ };
+
+    ghost view = { λ t. t.shares };
+
+    ghost invariant = { λ t. (1 ≤ t.shares) × (t.shares ≤ 16) × (t.product.instrs ≡ (product_gadget t.shares).instrs) × (t.product.outs ≡ (product_gadget t.shares).outs) × (t.refresh.instrs ≡ (refresh_gadget t.shares).instrs) × (t.refresh.outs ≡ (refresh_gadget t.shares).outs) };
+}
+
+impl Templates {
+    /// Instruction `k` of the template of an operator, if it has as many.
+    pub(crate) fn instr(&self, op: &Op, k: u32) -> Option<Instr>
+        ensures { result ≡ slice_get (built_in self.now op.now).instrs k }
+    {
+        match op {
+            Op::Mul { .. } => self.product.instrs().as_slice().get(k as usize).copied(),
+            Op::Refresh { .. } => self.refresh.instrs().as_slice().get(k as usize).copied(),
+            _ if k < self.rows(op) => Some(row(op, self.shares, k)),
+            _ => None,
+        }
+    }
+
+    /// The place of share `k` in its out bank, if it has as many.
+    pub(crate) fn share_place(&self, op: &Op, k: u32) -> Option<u32>
+        ensures { result ≡ slice_get (built_in self.now op.now).outs k }
+    {
+        match op {
+            Op::Mul { .. } => self.product.outs().as_slice().get(k as usize).copied(),
+            Op::Refresh { .. } => self.refresh.outs().as_slice().get(k as usize).copied(),
+            _ if k < self.rows(op) => Some(operands(op, self.shares) + k),
+            _ => None,
+        }
+    }
+
+    /// How many instructions the template of a public or linear operator has, and its out bank places.
+    fn rows(&self, op: &Op) -> u32
+        ensures rows { (kind op.now ≢ Strong) → (result ≡ length (built_in self.now op.now).instrs) × (result ≡ length (built_in self.now op.now).outs) }
+        ensures small { result ≤ 16 }
+    {
+        if is_public(op) { 1 } else { self.shares }
+    }
+}
+
+/// How many places the operands of an operator have.
+fn operands(op: &Op, shares: u32) -> u32
+    requires { shares ≤ 16 }
+    ensures { result ≡ shares * length (shared_operands op.now) + length (public_operands op.now) }
+{
+    match op {
+        Op::Const { .. } => 0,
+        Op::PubSq { .. } | Op::PubMap { .. } | Op::Lift { .. } => 1,
+        Op::PubAdd { .. } | Op::PubMul { .. } => 2,
+        Op::Sq { .. } | Op::Map { .. } | Op::Refresh { .. } => shares,
+        Op::AddPub { .. } | Op::Scale { .. } => shares + 1,
+        Op::Add { .. } | Op::Mul { .. } => 2 * shares,
+    }
+}
+
+/// Instruction `k` of the template of a public or linear operator.
+fn row(op: &Op, shares: u32, k: u32) -> Instr
+    requires kind { kind op.now ≢ Strong }
+    requires shares { shares ≤ 16 }
+    requires there { k < length (built_in shares op.now).instrs }
+    ensures { slice_get (built_in shares op.now).instrs k ≡ Some result }
+{
+    match *op {
+        Op::Const { value } => Instr::Const { value },
+        Op::PubAdd { .. } => Instr::Add { left: 0, right: 1 },
+        Op::PubMul { .. } => Instr::Mul { left: 0, right: 1 },
+        Op::PubSq { .. } => Instr::Sq { from: 0 },
+        Op::PubMap { map, .. } => Instr::Map { map, from: 0 },
+        Op::Lift { .. } if k == 0 => Instr::Copy { from: 0 },
+        Op::Lift { .. } => Instr::Const { value: 0 },
+        Op::Add { .. } => Instr::Add {
+            left: k,
+            right: shares + k,
+        },
+        Op::AddPub { .. } if k == 0 => Instr::Add {
+            left: 0,
+            right: shares,
+        },
+        Op::AddPub { .. } => Instr::Copy { from: k },
+        Op::Scale { .. } => Instr::Mul {
+            left: k,
+            right: shares,
+        },
+        Op::Sq { .. } => Instr::Sq { from: k },
+        Op::Map { map, .. } => Instr::Map { map, from: k },
+        Op::Mul { .. } | Op::Refresh { .. } => unreachable!(),
+    }
+}
+
+/// The places from `first` on, one for each share.
+fn bank_at<const N: usize>(first: u32) -> Bank<N>
+    requires first { first ≤ 16 }
+    requires shares { N ≤ 16 }
+    ensures { result.regs ≡ range_with_len first N }
+{
+    let mut regs = [first; N];
+    for share in 0..N {
+        regs[share] = first + share as u32;
+    }
+    Bank { regs }
+}
+
+/// The product as a code of its own.
+fn product_code<F: Field, const N: usize>(alloc: Global) -> Result<Code, Memory>
+    requires shares { (2 ≤ N) × (N ≤ 9) }
+    ensures instrs { IfOk result (λ code. code.instrs ≡ (product_gadget N).instrs) }
+    ensures outs { IfOk result (λ code. code.outs ≡ (product_gadget N).outs) }
+{
+    let mut builder = CodeBuilder::<F>::new(alloc, N as u8 - 1, 2, 0, Items::new(alloc));
+    let bank = emit_mul::<F, N>(&mut builder, &bank_at::<N>(0), &bank_at::<N>(N as u32))?;
+    let outs = Vec::from_slice(alloc, &bank.regs)?;
+    Ok(builder.finish(Items::from_vec(outs)))
+}
+
+/// The refresh as a code of its own.
+fn refresh_code<F: Field, const N: usize>(alloc: Global) -> Result<Code, Memory>
+    requires shares { (2 ≤ N) × (N ≤ 9) }
+    ensures instrs { IfOk result (λ code. code.instrs ≡ (refresh_gadget N).instrs) }
+    ensures outs { IfOk result (λ code. code.outs ≡ (refresh_gadget N).outs) }
+{
+    let mut builder = CodeBuilder::<F>::new(alloc, N as u8 - 1, 1, 0, Items::new(alloc));
+    let bank = emit_refresh::<F, N>(&mut builder, &bank_at::<N>(0))?;
+    let outs = Vec::from_slice(alloc, &bank.regs)?;
+    Ok(builder.finish(Items::from_vec(outs)))
+}
+
+/// The templates with `N` shares.
+fn with_shares<F: Field, const N: usize>(alloc: Global) -> Result<Templates, Memory>
+    requires shares { (2 ≤ N) × (N ≤ 9) }
+    ensures { IfOk result (λ templates. templates ≡ N) }
+{
+    Ok(Templates {
+        shares: N as u32,
+        product: product_code::<F, N>(alloc)?,
+        refresh: refresh_code::<F, N>(alloc)?,
+    })
+}
+
+/// The templates at an order.
+pub(crate) fn at_order(alloc: Global, order: u8) -> Result<Templates, Memory>
+    requires order { (1 ≤ order) × (order ≤ TOP_ORDER) }
+    ensures { IfOk result (λ templates. templates ≡ order + 1) }
+{
+    with_order!(order, with_shares::<Gf2>(alloc))
+}
