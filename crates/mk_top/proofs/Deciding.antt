@@ -6,15 +6,12 @@ use Rattle.std.proofs.lemmas.List.{append-nil}
 use Rattle.mk_base.specs.declared.Place.{Place}
 use Rattle.mk_code.specs.Listing.{Listing}
 use Rattle.mk_rules.specs.Claimed.{Claimed}
-use Rattle.mk_gadget.specs.Gadget.{Gadget}
-use Rattle.mk_rules.proofs.Places.{FirstUnwired-not, FirstUnwired-only, FirstMismatch-not, FirstMismatch-only, FirstWrongOutput-only}
-use Rattle.mk_rules.proofs.Claims.{FirstWrongOutput-not}
+use Rattle.mk_check.proofs.Verdicts.{accepted-not_refused, refused-once}
 use Rattle.mk_bundle.specs.Text.{text}
 use Rattle.mk_bundle.specs.Pairs.{IsPair, IsBundleText, NamesFirst, TextsDiffer}
 use Rattle.hex.specs.Hex.{decode_of}
 use Rattle.hex.specs.declared.error.FromHexError.TheVariants.{OddLength}
 use Rattle.hex.proofs.HexLemmas.{decode_of-same}
-use Rattle.mk_rules.specs.Sums.{AreSums}
 use Rattle.mk_top.specs.declared.fault.Fault.{Fault}
 use Rattle.mk_top.specs.declared.fault.Fault.TheVariants as fault
 use Rattle.mk_top.specs.declared.fault.SourceFault.{SourceFault}
@@ -34,7 +31,7 @@ use Rattle.mk_types.proofs.Least.{first_one, none_first}
 use Rattle.mk_top.specs.declared.first.Program.{Program}
 use Rattle.mk_top.specs.First.{HasFirstForm}
 use Rattle.mk_top.specs.Sources.{IsNoSource}
-use Rattle.mk_top.specs.Answers.{IsAccepted, IsRefused, PairDecides, BundleDecides, SourceDecides, CompileDecides, EvalDecides, TextDecides, Decides, limit_of}
+use Rattle.mk_top.specs.Answers.{refusal_of, PairDecides, BundleDecides, SourceDecides, CompileDecides, EvalDecides, TextDecides, Decides, limit_of}
 
 -- `-` is no text of hexadecimal digits
 dash : (word xs : List ℕ) → word ≡ codes "-" → decode_of word ≡ Ok xs → ⊥
@@ -68,45 +65,32 @@ asks-one words (Eval ps ss) (Eval qs ts) first second =
     ap (λ (xs : List ℕ). Eval xs ss) (says-one second.0 ps qs (subst (λ (w : List ℕ). SaysElements w ps) one first.3) second.3)
     ∙ ap (Eval qs) (says-one second.1 ss ts (subst (λ (w : List ℕ). SaysElements w ss) two first.4) second.4)
 
--- any gadget, where none is used
-no_gadget : Gadget
-no_gadget = record { instrs = []; outs = [] }
-
--- a code and certificate that are accepted are not refused
-accepted-not : (code : Listing) (cert : Claimed) (why : CheckFault) → AreSums cert.blocks → IsAccepted code cert → IsRefused code cert why → ⊥
-accepted-not code cert check.NotYet sums accepted why = why sums
-accepted-not code cert (check.Operand k) sums accepted why = FirstUnwired-not code cert.blocks k why.1 (accepted no_gadget no_gadget).wired
-accepted-not code cert (check.Tile k) sums accepted why = FirstMismatch-not _ _ k (why.2 no_gadget no_gadget) (accepted no_gadget no_gadget).tiles
-accepted-not code cert (check.Output k) sums accepted why =
-    FirstWrongOutput-not code no_gadget no_gadget cert.blocks cert.claims why.0 why.1 k (why.2 no_gadget no_gadget).1 (accepted no_gadget no_gadget).outputs
-
--- they are refused for one reason
-refused-one : (code : Listing) (cert : Claimed) (a b : CheckFault) → IsRefused code cert a → IsRefused code cert b → a ≡ b
-refused-one code cert check.NotYet check.NotYet first second = refl
-refused-one code cert check.NotYet (check.Operand k) first second = absurd (first second.0)
-refused-one code cert check.NotYet (check.Tile k) first second = absurd (first second.0)
-refused-one code cert check.NotYet (check.Output k) first second = absurd (first second.0)
-refused-one code cert (check.Operand j) check.NotYet first second = absurd (second first.0)
-refused-one code cert (check.Operand j) (check.Operand k) first second = ap check.Operand (FirstUnwired-only code cert.blocks j k first.1 second.1)
-refused-one code cert (check.Operand j) (check.Tile k) first second = absurd (FirstUnwired-not code cert.blocks j first.1 second.1)
-refused-one code cert (check.Operand j) (check.Output k) first second = absurd (FirstUnwired-not code cert.blocks j first.1 second.1)
-refused-one code cert (check.Tile j) check.NotYet first second = absurd (second first.0)
-refused-one code cert (check.Tile j) (check.Operand k) first second = absurd (FirstUnwired-not code cert.blocks k second.1 first.1)
-refused-one code cert (check.Tile j) (check.Tile k) first second = ap check.Tile (FirstMismatch-only _ _ j k (first.2 no_gadget no_gadget) (second.2 no_gadget no_gadget))
-refused-one code cert (check.Tile j) (check.Output k) first second = absurd (FirstMismatch-not _ _ j (first.2 no_gadget no_gadget) (second.2 no_gadget no_gadget).0)
-refused-one code cert (check.Output j) check.NotYet first second = absurd (second first.0)
-refused-one code cert (check.Output j) (check.Operand k) first second = absurd (FirstUnwired-not code cert.blocks k second.1 first.1)
-refused-one code cert (check.Output j) (check.Tile k) first second = absurd (FirstMismatch-not _ _ k (second.2 no_gadget no_gadget) (first.2 no_gadget no_gadget).0)
-refused-one code cert (check.Output j) (check.Output k) first second =
-    ap check.Output (FirstWrongOutput-only code no_gadget no_gadget cert.blocks cert.claims j k (first.2 no_gadget no_gadget).1 (second.2 no_gadget no_gadget).1)
+-- a refusal tells of one fault
+refusal-one : (a b : CheckFault) → refusal_of a ≡ refusal_of b → a ≡ b
+refusal-one (check.Operand j) (check.Operand k) e = cc
+refusal-one (check.Operand j) (check.Tile k) e = absurd cc
+refusal-one (check.Operand j) (check.Output k) e = absurd cc
+refusal-one (check.Operand j) (check.Doubled v k) e = absurd cc
+refusal-one (check.Tile j) (check.Operand k) e = absurd cc
+refusal-one (check.Tile j) (check.Tile k) e = cc
+refusal-one (check.Tile j) (check.Output k) e = absurd cc
+refusal-one (check.Tile j) (check.Doubled v k) e = absurd cc
+refusal-one (check.Output j) (check.Operand k) e = absurd cc
+refusal-one (check.Output j) (check.Tile k) e = absurd cc
+refusal-one (check.Output j) (check.Output k) e = cc
+refusal-one (check.Output j) (check.Doubled v k) e = absurd cc
+refusal-one (check.Doubled u j) (check.Operand k) e = absurd cc
+refusal-one (check.Doubled u j) (check.Tile k) e = absurd cc
+refusal-one (check.Doubled u j) (check.Output k) e = absurd cc
+refusal-one (check.Doubled u j) (check.Doubled v k) e = cc
 
 -- a code and certificate decide one answer
 pair-one : (code : Listing) (cert : Claimed) (a b : Option Fault) → PairDecides code cert a → PairDecides code cert b → a ≡ b
 pair-one code cert None None first second = refl
-pair-one code cert None (Some (fault.Check why)) first second = absurd (accepted-not code cert why first.0 first.1 second)
+pair-one code cert None (Some (fault.Check why)) first second = absurd (accepted-not_refused code cert (refusal_of why) first second)
 pair-one code cert None (Some f) first second = absurd second
-pair-one code cert (Some (fault.Check why)) None first second = absurd (accepted-not code cert why second.0 second.1 first)
-pair-one code cert (Some (fault.Check why)) (Some (fault.Check other)) first second = ap (λ (w : CheckFault). Some (fault.Check w)) (refused-one code cert why other first second)
+pair-one code cert (Some (fault.Check why)) None first second = absurd (accepted-not_refused code cert (refusal_of why) second first)
+pair-one code cert (Some (fault.Check why)) (Some (fault.Check other)) first second = ap (λ (w : CheckFault). Some (fault.Check w)) (refusal-one why other (refused-once code cert (refusal_of why) (refusal_of other) first second))
 pair-one code cert (Some (fault.Check why)) (Some f) first second = absurd second
 pair-one code cert (Some f) b first second = absurd first
 

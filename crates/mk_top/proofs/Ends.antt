@@ -18,7 +18,7 @@ makes-decides : (command : Command) (bytes written : List ℕ) → Makes command
 makes-decides (Compile order) bytes written makes within =
     (within, (makes.tree, makes.source.spelled.spelled, makes.source.typed, (makes.program, makes.form)))
 makes-decides Check bytes written makes within =
-    (within, (makes.0.code, makes.0.cert, makes.0.pair, makes.0.bundle, (makes.0.sums, makes.0.accepted)))
+    (within, (makes.0.code, makes.0.cert, makes.0.pair, makes.0.bundle, makes.0.accepted))
 makes-decides (Eval ps ss) bytes written makes within =
     (within, (makes.tree, makes.source.spelled.spelled, makes.source.typed, sym (ap (option_map fault_of_eval) makes.taken)))
 

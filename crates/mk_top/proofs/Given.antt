@@ -1,12 +1,22 @@
 -- What was made of a text, said of the bytes that the input gave.
-use Rattle.std.proofs.Common.{◌≡◌, ℕ, ◌≤◌, List, Option, Some, None, Result, Ok, Err, IfOk, IfErr, IfSome, OnOk, length, subst, sym, ap, ◌∙◌, ◌⊎◌, inl, inr}
+use Rattle.std.proofs.Common.{◌≡◌, ℕ, ◌+◌, ◌≤◌, List, Option, Some, None, Result, Ok, Err, IfOk, IfErr, IfSome, OnOk, length, subst, sym, ap, ◌∙◌, ◌⊎◌, inl, inr}
 use Rattle.std.specs.Prelude.{option_map}
 use Rattle.mk_base.specs.Streams.{ReadsAll}
 use Rattle.mk_top.specs.declared.fault.Fault.{Fault}
 use Rattle.mk_top.specs.declared.fault.Fault.TheVariants as fault_
 use Rattle.mk_top.specs.declared.fault.SourceFault.TheVariants as source
-use Rattle.mk_top.specs.declared.fault.CheckFault.TheVariants as check
 use Rattle.mk_top.specs.Words.{Command, Compile, Check, Eval}
+use Rattle.mk_code.specs.Listing.{Listing}
+use Rattle.mk_code.specs.Private.{Private}
+use Rattle.mk_gadget.specs.Product.{product_gadget}
+use Rattle.mk_gadget.specs.Refresh.{refresh_gadget}
+use Rattle.mk_rules.specs.Claimed.{Claimed}
+use Rattle.mk_bundle.specs.Text.{text}
+use Rattle.mk_bundle.specs.Pairs.{IsPair}
+use Rattle.mk_top.specs.declared.first.Program.{Program}
+use Rattle.mk_top.specs.First.{HasFirstForm}
+use Rattle.mk_top.specs.Compiled.{IsCompiled}
+use Rattle.mk_top.specs.Correct.{Correct}
 use Rattle.mk_top.specs.Answers.{ReadWhole, Compiles, Checks, Evaluates, limit_of, TextDecides, IsAnswerOf}
 use Rattle.mk_top.specs.Sources.{IsSourceOf}
 use Rattle.mk_eval.specs.declared.refusal.EvalRefusal.{EvalRefusal}
@@ -94,7 +104,6 @@ checks-given None after bytes read c = record {
   cert = c.cert;
   pair = c.pair;
   bundle = tt;
-  sums = c.sums;
   accepted = c.accepted;
   private = c.private;
 }
@@ -103,7 +112,6 @@ checks-given (Some rest) after bytes read c = record {
   cert = c.cert;
   pair = c.pair;
   bundle = sym read.whole ∙ c.bundle;
-  sums = c.sums;
   accepted = c.accepted;
   private = c.private;
 }
@@ -142,10 +150,7 @@ answer-of : (command : Command) (bytes : List ℕ) (fault : Fault) → TextDecid
 answer-of (Compile order) bytes (fault_.Source why) decides = tt
 answer-of (Compile order) bytes (fault_.Inputs why) decides = absurd decides.3
 answer-of (Compile order) bytes f decides = absurd decides.3
-answer-of Check bytes (fault_.Check check.NotYet) decides = tt
-answer-of Check bytes (fault_.Check (check.Tile instr)) decides = tt
-answer-of Check bytes (fault_.Check (check.Operand block)) decides = tt
-answer-of Check bytes (fault_.Check (check.Output index)) decides = tt
+answer-of Check bytes (fault_.Check why) decides = tt
 answer-of Check bytes (fault_.Bundle line) decides = tt
 answer-of Check bytes f decides = absurd decides.4
 answer-of (Eval ps ss) bytes (fault_.Source why) decides = tt
@@ -192,3 +197,28 @@ eval_not_made ps ss bytes tree e is (inr why) = by e why
     by (eval.Length given wanted) h = (tree, is.spelled.spelled, is.typed, sym (ap (option_map fault_of_eval) h))
     by (eval.Element which index) h = (tree, is.spelled.spelled, is.typed, sym (ap (option_map fault_of_eval) h))
     by eval.Memory h = tt
+
+-- a source of the first form was compiled where its code is what it promises
+pub compiles-made : (order : ℕ) (bytes written : List ℕ) (tree : Tree) (p : Program) (code : Listing) (cert : Claimed)
+    → IsSourceOf bytes tree → HasFirstForm tree p → ((q : Program) → HasFirstForm tree q → q ≡ p)
+    → IsCompiled p order code cert → Correct p order code → Private code → IsPair code cert
+    → length (text code cert) ≤ 268435456 → written ≡ text code cert → Compiles order (Some bytes) written
+compiles-made order bytes written tree p code cert source form alone compiled correct private pair short same = record {
+  tree = tree;
+  program = p;
+  code = code;
+  cert = cert;
+  source = source;
+  form = form;
+  alone = alone;
+  compiled = compiled;
+  correct = correct;
+  private = private;
+  pair = pair;
+  bytes = same;
+  accepted = compiled.accepted (product_gadget (code.order + 1)) (refresh_gadget (code.order + 1));
+  checks = (
+    subst (λ (bs : List ℕ). length bs ≤ 268435456) (sym same) short,
+    (code, cert, pair, same, compiled.accepted (product_gadget (code.order + 1)) (refresh_gadget (code.order + 1))),
+  );
+}

@@ -5,12 +5,10 @@ use Rattle.mk_base.specs.Streams.{CameWithin, TakesPrefix}
 use Rattle.mk_code.specs.Listing.{Listing}
 use Rattle.mk_code.specs.Private.{Private}
 use Rattle.mk_rules.specs.Claimed.{Claimed}
-use Rattle.mk_gadget.specs.Gadget.{Gadget}
-use Rattle.mk_rules.specs.Wired.{Wired}
-use Rattle.mk_rules.specs.Tiles.{Tiles}
-use Rattle.mk_rules.specs.Accepts.{Accepts}
-use Rattle.mk_rules.specs.Places.{FirstUnwired, FirstOffTile, FirstWrongOutput}
-use Rattle.mk_rules.specs.Sums.{AreSums}
+use Rattle.mk_rules.specs.Accepts.{IsAccepted}
+use Rattle.mk_check.specs.declared.refusal.CheckRefusal.{CheckRefusal}
+use Rattle.mk_check.specs.declared.refusal.CheckRefusal.TheVariants as refused
+use Rattle.mk_check.specs.Verdict.{Refuses}
 use Rattle.mk_bundle.specs.Text.{text}
 use Rattle.mk_bundle.specs.Pairs.{IsPair, IsBundleText, NamesFirst}
 use Rattle.mk_ast.specs.declared.tree.Program.{Program as Tree}
@@ -40,10 +38,6 @@ limit_of (Compile order) = 1048576
 limit_of Check = 268435456
 limit_of (Eval publics secrets) = 1048576
 
--- the rule accepts the code with its certificate, whatever gadgets stand for products and refreshes
-abbrev pub IsAccepted : Listing → Claimed → Type 0
-IsAccepted code cert = (product refresh : Gadget) → Accepts code product refresh cert
-
 -- the output took this whole text, where it tells what it took
 abbrev pub TakesWhole : Option (List ℕ) → List ℕ → Option (List ℕ) → Type 0
 TakesWhole before written after = IfSome before (λ taken. after ≡ Some (taken ++ written))
@@ -52,22 +46,17 @@ TakesWhole before written after = IfSome before (λ taken. after ≡ Some (taken
 abbrev pub TakesSome : Option (List ℕ) → List ℕ → Option (List ℕ) → Type 0
 TakesSome before written after = IfSome before (λ taken. TakesPrefix taken written after)
 
--- why a code is refused with its certificate: blocks other than sums are not checked yet; then come the first
--- block with a wrong operand, the first instruction that isn't that of its template, and the first output
--- that isn't the claimed value
-abbrev pub IsRefused : Listing → Claimed → CheckFault → Type 0
-IsRefused code cert check.NotYet = AreSums cert.blocks → ⊥
-IsRefused code cert (check.Operand block) = AreSums cert.blocks × FirstUnwired code cert.blocks block
-IsRefused code cert (check.Tile instr) =
-    AreSums cert.blocks × Wired code cert.blocks × ((product refresh : Gadget) → FirstOffTile code product refresh cert.blocks instr)
-IsRefused code cert (check.Output index) =
-    AreSums cert.blocks × Wired code cert.blocks
-    × ((product refresh : Gadget) → Tiles code product refresh cert.blocks × FirstWrongOutput code product refresh cert.blocks cert.claims index)
+-- the refusal of the checker that a fault tells
+abbrev pub refusal_of : CheckFault → CheckRefusal
+refusal_of (check.Operand block) = refused.Operand block
+refusal_of (check.Tile instr) = refused.Tile instr
+refusal_of (check.Output index) = refused.Output index
+refusal_of (check.Doubled value block) = refused.Doubled value block
 
--- the answer that a code and certificate decide: acceptance, or why they are refused
+-- the answer that a code and certificate decide: the rule accepts them, or this is why they are refused
 abbrev pub PairDecides : Listing → Claimed → Option Fault → Type 0
-PairDecides code cert None = AreSums cert.blocks × IsAccepted code cert
-PairDecides code cert (Some (fault.Check why)) = IsRefused code cert why
+PairDecides code cert None = IsAccepted code cert
+PairDecides code cert (Some (fault.Check why)) = Refuses code cert (refusal_of why)
 PairDecides code cert (Some _) = ⊥
 
 -- the answer that a bundle decides: that of its code and certificate, or where it goes wrong as a text
@@ -135,7 +124,6 @@ pub record Checks (given : Option (List ℕ)) : Type 0 where
   pub cert : Claimed
   pub pair : IsPair code cert
   pub bundle : IfSome given (λ bytes. bytes ≡ text code cert)
-  pub sums : AreSums cert.blocks
   pub accepted : IsAccepted code cert
   pub private : Private code
 
@@ -189,13 +177,14 @@ WritesNothing result = (result ≢ status.Done) × (result ≢ status.WriteFault
 -- the answers that a command has
 abbrev pub IsAnswerOf : Command → Status → Type 0
 IsAnswerOf command status.Done = Unit {0}
-IsAnswerOf command status.Source = Unit {0}
 IsAnswerOf command status.ReadFault = Unit {0}
 IsAnswerOf command status.WriteFault = Unit {0}
 IsAnswerOf command status.Memory = Unit {0}
 IsAnswerOf command status.TooLong = Unit {0}
+IsAnswerOf (Compile order) status.Source = Unit {0}
 IsAnswerOf Check status.Refused = Unit {0}
 IsAnswerOf Check status.Bundle = Unit {0}
+IsAnswerOf (Eval publics secrets) status.Source = Unit {0}
 IsAnswerOf (Eval publics secrets) status.Inputs = Unit {0}
 IsAnswerOf command _ = ⊥
 

@@ -9,6 +9,9 @@ use Rattle.mk_ast.specs.declared.refusal.Limit.{Limit}
 use Rattle.mk_ast.specs.declared.refusal.Limit.TheVariants as limit_
 use Rattle.mk_eval.specs.declared.refusal.EvalRefusal.{EvalRefusal}
 use Rattle.mk_eval.specs.declared.refusal.EvalRefusal.TheVariants as eval
+use Rattle.mk_check.specs.declared.refusal.CheckRefusal.{CheckRefusal}
+use Rattle.mk_check.specs.declared.refusal.CheckRefusal.TheVariants as refused
+use Rattle.mk_bundle.specs.Words.{operand_word}
 use Rattle.mk_bundle.specs.declared.read.BundleRefusal.{BundleRefusal}
 use Rattle.mk_bundle.specs.declared.read.BundleRefusal.TheVariants as bundle
 use Rattle.mk_top.specs.declared.status.Status.{Status}
@@ -62,19 +65,20 @@ fault_of_eval (eval.Length given wanted) = fault.Inputs (input.Length given want
 fault_of_eval (eval.Element which index) = fault.Inputs (input.Element which index)
 fault_of_eval eval.Memory = fault.Memory
 
--- the status that a refusal of the checker ends with
-abbrev pub check_status : CheckFault → Status
-check_status check.NotYet = status.Source
-check_status (check.Tile instr) = status.Refused
-check_status (check.Operand block) = status.Refused
-check_status (check.Output index) = status.Refused
+-- the fault of a refused code and certificate
+abbrev pub fault_of_check : CheckRefusal → Fault
+fault_of_check (refused.Operand block) = fault.Check (check.Operand block)
+fault_of_check (refused.Tile instr) = fault.Check (check.Tile instr)
+fault_of_check (refused.Output index) = fault.Check (check.Output index)
+fault_of_check (refused.Doubled value block) = fault.Check (check.Doubled value block)
+fault_of_check refused.Memory = fault.Memory
 
 -- the status that a fault ends with
 abbrev pub status_of : Fault → Status
 status_of fault.Words = status.Words
 status_of (fault.Source why) = status.Source
 status_of (fault.Inputs why) = status.Inputs
-status_of (fault.Check why) = check_status why
+status_of (fault.Check why) = status.Refused
 status_of (fault.Bundle line) = status.Bundle
 status_of fault.ReadFault = status.ReadFault
 status_of fault.WriteFault = status.WriteFault
@@ -122,10 +126,10 @@ input_line (input.Element which index) = numbered_line (element_head which) inde
 
 -- the line of a code and certificate that are refused
 abbrev pub check_line : CheckFault → List ℕ
-check_line check.NotYet = codes "30 not yet 1:1\n"
 check_line (check.Tile instr) = numbered_line (codes "11 tile ") instr
 check_line (check.Operand block) = numbered_line (codes "12 operand ") block
 check_line (check.Output index) = numbered_line (codes "14 output ") index
+check_line (check.Doubled value block) = codes "13 doubled " ++ operand_word value ++ codes " b" ++ decimal block ++ 10 ∷ []
 
 -- the line that a fault is told by
 abbrev pub fault_line : Fault → List ℕ

@@ -2,13 +2,10 @@
 use Rattle.std.specs.Prelude.{◌≡◌, ℕ, ◌<◌, List, Option, Some, IfSome, length}
 use Rattle.mk_base.specs.Outside.{Rose}
 use Rattle.mk_base.specs.Streams.{CameWithin}
-use Rattle.mk_code.specs.Listing.{Listing}
-use Rattle.mk_rules.specs.Claimed.{Claimed}
 use Rattle.mk_top.specs.declared.fault.Fault.{Fault}
-use Rattle.mk_top.specs.declared.fault.Fault.TheVariants.{Words, Source, Check, ReadFault, WriteFault, Memory, TooLong}
-use Rattle.mk_top.specs.declared.fault.SourceFault.TheVariants as source
+use Rattle.mk_top.specs.declared.fault.Fault.TheVariants.{Words, Source, ReadFault, WriteFault, Memory, TooLong}
 use Rattle.mk_top.specs.Words.{Command, Asks, IsNoForm}
-use Rattle.mk_top.specs.Answers.{ReadWhole, Makes, PairDecides, SourceDecides, TextDecides, Decides, limit_of, TakesWhole, TakesSome, IsAnswerOf}
+use Rattle.mk_top.specs.Answers.{ReadWhole, Makes, SourceDecides, TextDecides, Decides, limit_of, TakesWhole, TakesSome, IsAnswerOf}
 use Rattle.mk_top.specs.Faults.{status_of}
 
 -- why a text was not read, by the input's bytes before and after and its count of faults before and after
@@ -17,11 +14,6 @@ NotRead limit given after reads then_reads ReadFault = Rose reads then_reads × 
 NotRead limit given after reads then_reads Memory = Unit {0}
 NotRead limit given after reads then_reads (TooLong at) = IfSome given (λ bytes. (at ≡ limit) × (limit < length bytes))
 NotRead limit given after reads then_reads _ = ⊥
-
--- why a code and its certificate were not accepted
-abbrev pub NotAccepted : Listing → Claimed → Fault → Type 0
-NotAccepted code cert Memory = Unit {0}
-NotAccepted code cert fault = PairDecides code cert (Some fault)
 
 -- why there is no typed source: the text spells none, or one with a first offence, or memory was wanted
 abbrev pub NotTyped : List ℕ → Fault → Type 0

@@ -1,44 +1,14 @@
-ghost use Rattle.std.specs.Prelude.{◌≡◌, ◌≤◌, ◌↔◌, Some, IsTrue, OnOk, IfErr, length};
-ghost use Rattle.mk_code.specs.Private.{Private};
-ghost use Rattle.mk_rules.specs.Sums.{AreSums};
+ghost use Rattle.std.specs.Prelude.{◌≡◌, ◌≤◌, Some, OnOk, IfErr, length};
 ghost use Rattle.mk_top.specs.Words.{Check};
-ghost use Rattle.mk_top.specs.Answers.{IsAccepted, Checks, ReadWhole, limit_of};
-ghost use Rattle.mk_top.specs.Running.{NotAccepted, NotMade, NoText};
+ghost use Rattle.mk_top.specs.Answers.{Checks, ReadWhole, limit_of};
+ghost use Rattle.mk_top.specs.Running.{NotMade, NoText};
 
-use crate::fault::{CheckFault, Fault};
+use crate::fault::Fault;
 use crate::reading::whole_text;
 use mk_base::Source;
 use mk_bundle::read_bundle;
-use mk_check::{CheckRefusal, check};
-use mk_code::Code;
-use mk_rules::Cert;
-use mk_ssa::Op;
+use mk_check::check;
 use std::alloc::Global;
-
-/// Whether each block is a sum.
-fn are_sums(blocks: &[Op]) -> bool
-    ensures { IsTrue result ↔ AreSums blocks.now }
-{
-    blocks.iter().all(|op| matches!(op, Op::Add { .. }))
-}
-
-/// Whether the rule accepts a code with its certificate of sums.
-fn accepted(alloc: Global, code: &Code, cert: &Cert) -> Result<(), Fault>
-    requires { AreSums cert.now.blocks }
-    ensures rule { OnOk result (IsAccepted code.now cert.now) }
-    ensures private { OnOk result (Private code.now) }
-    ensures fault { IfErr result (NotAccepted code.now cert.now) }
-{
-    match check(alloc, code, cert) {
-        Ok(()) => Ok(()),
-        Err(CheckRefusal::Operand { block }) => Err(Fault::Check(CheckFault::Operand { block })),
-        Err(CheckRefusal::Tile { instr }) => Err(Fault::Check(CheckFault::Tile { instr })),
-        Err(CheckRefusal::Output { index }) => Err(Fault::Check(CheckFault::Output { index })),
-        // No value of a sum is doubled.
-        Err(CheckRefusal::Doubled { value: _, block: _ }) => unreachable!(),
-        Err(CheckRefusal::Memory) => Err(Fault::Memory),
-    }
-}
 
 /// Checks the bundle that a text spells.
 fn verdict_of(alloc: Global, text: &[u8]) -> Result<(), Fault>
@@ -47,10 +17,8 @@ fn verdict_of(alloc: Global, text: &[u8]) -> Result<(), Fault>
     ensures fault { IfErr result (NotMade Check text.now) }
 {
     let bundle = read_bundle(alloc, text)?;
-    if !are_sums(bundle.cert.blocks().as_slice()) {
-        return Err(Fault::Check(CheckFault::NotYet));
-    }
-    accepted(alloc, &bundle.code, &bundle.cert)
+    check(alloc, &bundle.code, &bundle.cert)?;
+    Ok(())
 }
 
 /// The most bytes of a bundle text.

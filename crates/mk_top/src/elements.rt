@@ -6,7 +6,7 @@ ghost use Rattle.std.specs.Char.{is_ascii_hexdigit};
 ghost use Rattle.mk_top.specs.Words.{SaysElements, elements_word};
 ghost use Rattle.mk_top.specs.Forms.{AreElements};
 
-use crate::fault::Fault;
+use hex::FromHexError;
 use mk_base::{Bytes, Items, Memory};
 use std::alloc::Global;
 
@@ -41,7 +41,9 @@ pub(crate) fn elements_of(alloc: Global, word: &[u8]) -> Result<Bytes, Memory>
     }
     match hex::decode(alloc, word) {
         Ok(elements) => Ok(Items::from_vec(elements)),
-        Err(_) => Err(Memory),
+        Err(FromHexError::OutOfMemory) => Err(Memory),
+        // The word's digits are hexadecimal, and an even number of them.
+        Err(_) => unreachable!(),
     }
 }
 

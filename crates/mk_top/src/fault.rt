@@ -1,5 +1,6 @@
 ghost use Rattle.std.specs.Prelude.{◌≡◌, ◌≤◌, ◌++◌, ◌∷◌, [], length, decimal, codes};
-ghost use Rattle.mk_top.specs.Faults.{status_of, check_status, fault_line, source_line, large_line, input_line, element_head, check_line};
+ghost use Rattle.mk_bundle.specs.Words.{operand_word};
+ghost use Rattle.mk_top.specs.Faults.{status_of, fault_line, source_line, large_line, input_line, element_head, check_line};
 
 use crate::status::Status;
 use arrayvec::ArrayString;
@@ -7,7 +8,9 @@ use itoa::Buffer;
 use mk_ast::{Limit, SourceRefusal};
 use mk_base::{Memory, Place, Which};
 use mk_bundle::BundleRefusal;
+use mk_check::CheckRefusal;
 use mk_eval::EvalRefusal;
+use mk_ssa::Operand;
 
 /// Why a source is refused, with the place where.
 #[derive(Clone, Copy, Debug, PartialEq, Eq)]
@@ -44,14 +47,14 @@ pub enum InputFault {
 /// Why a code with its certificate is refused.
 #[derive(Clone, Copy, Debug, PartialEq, Eq)]
 pub enum CheckFault {
-    /// A block is not of a kind that is checked yet.
-    NotYet,
     /// This instruction is not that of its block's template.
     Tile { instr: u32 },
     /// An operand of this block is not there, or not of its kind.
     Operand { block: u32 },
     /// This output is not the claimed value.
     Output { index: u32 },
+    /// This value reaches both places of this product.
+    Doubled { value: Operand, block: u32 },
 }
 
 /// Why a run ends without its text.
@@ -127,6 +130,25 @@ impl From<SourceRefusal> for Fault {
     }
 }
 
+impl From<CheckRefusal> for Fault {
+    ghost use Rattle.std.specs.Prelude.{◌≡◌};
+    ghost use Rattle.mk_top.specs.Faults.{fault_of_check};
+
+    ghost from_gives = { λ refusal fault. fault ≡ fault_of_check refusal };
+
+    fn from(refusal: CheckRefusal) -> Fault {
+        match refusal {
+            CheckRefusal::Operand { block } => Fault::Check(CheckFault::Operand { block }),
+            CheckRefusal::Tile { instr } => Fault::Check(CheckFault::Tile { instr }),
+            CheckRefusal::Output { index } => Fault::Check(CheckFault::Output { index }),
+            CheckRefusal::Doubled { value, block } => {
+                Fault::Check(CheckFault::Doubled { value, block })
+            }
+            CheckRefusal::Memory => Fault::Memory,
+        }
+    }
+}
+
 impl From<EvalRefusal> for Fault {
     ghost use Rattle.std.specs.Prelude.{◌≡◌};
     ghost use Rattle.mk_top.specs.Faults.{fault_of_eval};
@@ -186,7 +208,7 @@ impl InputFault {
         ensures { result.bytes ≡ input_line self }
     {
         match self {
-            InputFault::Length { given, wanted } => compared("51 length ", given, wanted),
+            InputFault::Length { given, wanted } => paired("51 length ", given, " ", wanted),
             InputFault::Element { which, index } => numbered(element_head(which), index),
         }
     }
@@ -206,28 +228,27 @@ fn element_head(which: Which) -> &'static str
 }
 
 impl CheckFault {
-    /// The status that it ends with.
-    fn status(self) -> Status
-        ensures { result ≡ check_status self }
-    {
-        match self {
-            CheckFault::NotYet => Status::Source,
-            CheckFault::Tile { instr: _ }
-            | CheckFault::Operand { block: _ }
-            | CheckFault::Output { index: _ } => Status::Refused,
-        }
-    }
-
     /// Its line, with the line feed.
     fn line(self) -> FaultLine
         ensures { result.bytes ≡ check_line self }
     {
         match self {
-            CheckFault::NotYet => fixed("30 not yet 1:1\n"),
             CheckFault::Tile { instr } => numbered("11 tile ", instr),
             CheckFault::Operand { block } => numbered("12 operand ", block),
             CheckFault::Output { index } => numbered("14 output ", index),
+            CheckFault::Doubled { value, block } => doubled(value, block),
         }
+    }
+}
+
+/// The line of a value that reaches both places of a product.
+fn doubled(value: Operand, block: u32) -> FaultLine
+    ensures { result.bytes ≡ codes "13 doubled " ++ operand_word value ++ codes " b" ++ decimal block ++ 10 ∷ [] }
+{
+    match value {
+        Operand::Secret(number) => paired("13 doubled s", number, " b", block),
+        Operand::Public(number) => paired("13 doubled p", number, " b", block),
+        Operand::Block(number) => paired("13 doubled b", number, " b", block),
     }
 }
 
@@ -240,7 +261,7 @@ impl Fault {
             Fault::Words => Status::Words,
             Fault::Source(_) => Status::Source,
             Fault::Inputs(_) => Status::Inputs,
-            Fault::Check(fault) => fault.status(),
+            Fault::Check(_) => Status::Refused,
             Fault::Bundle { line: _ } => Status::Bundle,
             Fault::ReadFault => Status::ReadFault,
             Fault::WriteFault => Status::WriteFault,
@@ -306,18 +327,19 @@ fn placed(text: &str, at: Place) -> FaultLine
     line
 }
 
-/// A line that ends in two numbers.
-fn compared(text: &str, given: u32, wanted: u32) -> FaultLine
-    requires { length text.now ≤ 40 }
-    ensures { result.bytes ≡ text.now ++ decimal given ++ codes " " ++ decimal wanted ++ 10 ∷ [] }
+/// A line that ends in two numbers, with a text between them.
+fn paired(text: &str, first: u32, between: &str, second: u32) -> FaultLine
+    requires text { length text.now ≤ 20 }
+    requires between { length between.now ≤ 10 }
+    ensures { result.bytes ≡ text.now ++ decimal first ++ between.now ++ decimal second ++ 10 ∷ [] }
 {
     let mut firsts = Buffer::new();
     let mut seconds = Buffer::new();
     let mut line = FaultLine::new();
     line.push_str(text);
-    line.push_str(firsts.format(given));
-    line.push_str(" ");
-    line.push_str(seconds.format(wanted));
+    line.push_str(firsts.format(first));
+    line.push_str(between);
+    line.push_str(seconds.format(second));
     line.push_str("\n");
     line
 }

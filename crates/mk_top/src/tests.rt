@@ -2,6 +2,7 @@
 
 ghost use Rattle.std.specs.Prelude.{None};
 
+mod bundles;
 mod evaluations;
 mod sources;
 
@@ -85,12 +86,6 @@ fn answers(
             && err.taken() == answer.err.as_bytes(),
     )
 }
-
-const NOT_YET: Answer<'static> = Answer {
-    status: Status::Source,
-    out: "",
-    err: "30 not yet 1:1\n",
-};
 
 #[test]
 fn sums_are_compiled(rt: HostRuntime) -> Result<(), Memory> {
@@ -187,105 +182,6 @@ fn faults_of_the_outside_are_told(rt: HostRuntime) -> Result<(), Memory> {
         ..CALM
     };
     assert!(rt; answers(alloc, &compile, long.as_slice(), &wide, &too_long)?);
-    Ok(())
-}
-
-/// A bundle whose block is a product.
-const PRODUCT_BUNDLE: &str =
-    "mask 1\nfield gf2\norder 1\nsecrets 2\npublics 0\nblock mul s0 s1\nclaim b0\ncode\nrnd\nmul 0 3\nadd 4 5\nmul 1 2\nadd 6 7\nmul 0 2\nadd 9 4\nmul 1 3\nadd 11 8\nout 10 12\nend\n";
-
-/// A bundle of bits with a public input, a claimed secret and a claim that comes twice.
-const OTHER_BUNDLE: &str =
-    "mask 1\nfield gf2\norder 1\nsecrets 2\npublics 1\nblock add s1 s0\nblock add s0 s0\nclaim b0\nclaim s1\nclaim b0\ncode\nadd 2 0\nadd 3 1\nadd 0 0\nadd 1 1\nout 5 6\nout 2 3\nout 5 6\nend\n";
-
-/// A bundle of nothing.
-const EMPTY_BUNDLE: &str = "mask 1\nfield gf256\norder 8\nsecrets 0\npublics 0\ncode\nend\n";
-
-#[test]
-fn bundles_of_sums_are_accepted(rt: HostRuntime) -> Result<(), Memory> {
-    let alloc = rt.alloc();
-    let accepted = Answer {
-        status: Status::Done,
-        out: "accepted\n",
-        err: "",
-    };
-    assert!(rt; answers(alloc, &["check"], SUM_BUNDLE.as_bytes(), &CALM, &accepted)?);
-    assert!(rt; answers(alloc, &["check"], TWICE_BUNDLE.as_bytes(), &CALM, &accepted)?);
-    assert!(rt; answers(alloc, &["check"], OTHER_BUNDLE.as_bytes(), &CALM, &accepted)?);
-    assert!(rt; answers(alloc, &["check"], EMPTY_BUNDLE.as_bytes(), &CALM, &accepted)?);
-    assert!(rt;
-        answers(
-            alloc,
-            &["check"],
-            PRODUCT_BUNDLE.as_bytes(),
-            &CALM,
-            &NOT_YET
-        )?
-    );
-    Ok(())
-}
-
-#[test]
-fn the_first_fault_of_a_bundle_is_named(rt: HostRuntime) -> Result<(), Memory> {
-    let alloc = rt.alloc();
-    // The sum of two secrets, with one line changed, left out or added.
-    let rows = [
-        (
-            "mask 1\nfield gf256\norder 9\nsecrets 2\npublics 0\nblock add s0 s1\nclaim b0\ncode\nadd 0 2\nadd 1 3\nout 4 5\nend\n",
-            Status::Bundle,
-            "41 bundle 3\n",
-        ),
-        (
-            "mask 1\nfield gf256\norder 1\nsecrets 2\npublics 0\nblock add s0 s1\nclaim b0\ncode\nadd 0 2\nadd 1 3\nout 4 5\n",
-            Status::Bundle,
-            "41 bundle 12\n",
-        ),
-        (
-            "mask 1\nfield gf256\norder 1\nsecrets 2\npublics 0\nblock add s0 s1\nclaim b0\ncode\nadd 00 2\nadd 1 3\nout 4 5\nend\n",
-            Status::Bundle,
-            "41 bundle 9\n",
-        ),
-        (
-            "mask 1\nfield gf256\norder 1\nsecrets 2\npublics 0\nblock add s0 s1\nclaim b0\ncode\nadd 0 2\nadd 1 3\nout 4 5\nend\nend\n",
-            Status::Bundle,
-            "41 bundle 13\n",
-        ),
-        ("", Status::Bundle, "41 bundle 1\n"),
-        (
-            "mask 1\nfield gf256\norder 1\nsecrets 2\npublics 0\nblock add s0 s2\nclaim b0\ncode\nadd 0 2\nadd 1 3\nout 4 5\nend\n",
-            Status::Refused,
-            "12 operand 0\n",
-        ),
-        (
-            "mask 1\nfield gf256\norder 1\nsecrets 2\npublics 0\nblock add s0 s1\nclaim b0\ncode\nadd 0 2\nadd 1 2\nout 4 5\nend\n",
-            Status::Refused,
-            "11 tile 1\n",
-        ),
-        (
-            "mask 1\nfield gf256\norder 1\nsecrets 2\npublics 0\nblock add s0 s1\nclaim s0\ncode\nadd 0 2\nadd 1 3\nout 4 5\nend\n",
-            Status::Refused,
-            "14 output 0\n",
-        ),
-        // Its second output is the wrong one, or there is a claim too many.
-        (
-            "mask 1\nfield gf256\norder 1\nsecrets 2\npublics 0\nblock add s0 s1\nclaim b0\nclaim s0\ncode\nadd 0 2\nadd 1 3\nout 4 5\nout 2 3\nend\n",
-            Status::Refused,
-            "14 output 1\n",
-        ),
-        (
-            "mask 1\nfield gf256\norder 1\nsecrets 2\npublics 0\nblock add s0 s1\nclaim b0\nclaim b0\ncode\nadd 0 2\nadd 1 3\nout 4 5\nend\n",
-            Status::Refused,
-            "14 output 1\n",
-        ),
-    ];
-    for (text, status, err) in rows {
-        let refused = Answer {
-            status,
-            out: "",
-            err,
-        };
-        assert!(rt; answers(alloc, &["check"], text.as_bytes(), &CALM, &refused)?);
-    }
     Ok(())
 }
 

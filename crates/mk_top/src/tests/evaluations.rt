@@ -222,6 +222,15 @@ fn indexes_that_go_wrong_are_told(rt: HostRuntime) -> Result<(), Memory> {
     Ok(())
 }
 
+/// The word of so many elements 01.
+fn digits_of_ones(alloc: Global, count: u32) -> Result<String, Memory> {
+    let mut word = String::new(alloc);
+    for _ in 0..count {
+        word.push_str("01")?;
+    }
+    Ok(word)
+}
+
 #[test]
 fn execution_has_limits(rt: HostRuntime) -> Result<(), Memory> {
     let within = [
@@ -239,6 +248,24 @@ fn execution_has_limits(rt: HostRuntime) -> Result<(), Memory> {
         ),
     ];
     assert!(rt; gives_each(rt.alloc(), &within)?);
+    let many = digits_of_ones(rt.alloc(), 4001)?;
+    let full = [
+        // 65,536 declared elements
+        (
+            "-",
+            "-",
+            "field gf2;\nlocal secret t[65535];\noutput y;\n",
+            "00\n",
+        ),
+        // the sum of 4,001 ones
+        (
+            "-",
+            many.as_str(),
+            "field gf2;\nsecret a[4001];\noutput y;\nfor i in 0..4001 {\ny = y + a[i];\n}\n",
+            "01\n",
+        ),
+    ];
+    assert!(rt; gives_each(rt.alloc(), &full)?);
     let past = [
         (
             "-",
