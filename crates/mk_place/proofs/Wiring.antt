@@ -1,0 +1,90 @@
+-- The values are wired as blocks.
+use Rattle.std.proofs.Common.{◌≡◌, false, true, ℕ, zero, suc, ◌+◌, ◌<◌, ◌≤◌, List, [], ◌∷◌, ◌++◌, length, take, map, slice_get, Option, Some, IsSomeAnd, refl, sym, ◌∙◌, ap, subst, arith, inl, inr}
+use Rattle.std.proofs.lemmas.Option.{slice_get_within}
+use Rattle.std.proofs.lemmas.List.{length-take-le, append_assoc}
+use Rattle.mk_code.specs.Listing.{Listing}
+use Rattle.mk_ssa.specs.declared.Op.{Op}
+use Rattle.mk_ssa.specs.declared.Op.TheVariants.{Const, PubAdd, PubMul, PubSq, PubMap, Lift, Add, AddPub, Scale, Sq, Map, Mul, Refresh}
+use Rattle.mk_ssa.specs.declared.Operand.{Operand}
+use Rattle.mk_ssa.specs.declared.Operand.TheVariants.{Secret, Public, Block}
+use Rattle.mk_ssa.specs.Kinds.{Kind, kind, is_public, shared_operands}
+use Rattle.mk_ssa.specs.Values as ssa
+use Rattle.mk_ssa.specs.Values.{Values, Draft, draft, front, IsValues, IsDraft}
+use Rattle.mk_rules.specs.Tiles.{value_number}
+use Rattle.mk_rules.specs.Wired.{IsSharedThere, IsPublicThere, IsWired, AllWired, Wired}
+use Rattle.mk_rules.proofs.Places.{slice_get-take}
+use Rattle.mk_rules.proofs.Operators.{wired-operands, Each}
+use Rattle.mk_rules.proofs.Doubled.{number-there}
+use Rattle.mk_place.specs.Uses.{plain}
+use Rattle.mk_place.specs.Marking.{shared_numbers, inputs}
+use Rattle.mk_place.proofs.Taking.{AreOperands}
+
+-- a shared operand is there in the one sense and in the other
+shared-there : (s : Values) (n : ℕ) (v : Operand) → ssa.IsSharedThere (front (draft s) n) v → IsSharedThere (plain s) (take n s.values) v
+shared-there s n (Secret k) there = there
+shared-there s n (Public k) there = absurd there
+shared-there s n (Block k) there = there
+
+-- a public one too
+public-there : (s : Values) (n : ℕ) (v : Operand) → ssa.IsPublicThere (front (draft s) n) v → IsPublicThere (plain s) (take n s.values) v
+public-there s n (Secret k) there = absurd there
+public-there s n (Public k) there = there
+public-there s n (Block k) there = there
+
+-- what fits is wired
+pub fits-wired : (s : Values) (n : ℕ) (op : Op) → ssa.Fits (front (draft s) n) op → IsWired (plain s) (take n s.values) op
+fits-wired s n (Const value) fits = fits
+fits-wired s n (PubAdd left right) fits = (public-there s n left fits.0, public-there s n right fits.1)
+fits-wired s n (PubMul left right) fits = (public-there s n left fits.0, public-there s n right fits.1)
+fits-wired s n (PubSq arg) fits = public-there s n arg fits
+fits-wired s n (PubMap k arg) fits = (fits.0, public-there s n arg fits.1)
+fits-wired s n (Lift arg) fits = public-there s n arg fits
+fits-wired s n (Add left right) fits = (shared-there s n left fits.0, shared-there s n right fits.1)
+fits-wired s n (AddPub left right) fits = (shared-there s n left fits.0, public-there s n right fits.1)
+fits-wired s n (Scale left right) fits = (shared-there s n left fits.0, public-there s n right fits.1)
+fits-wired s n (Sq arg) fits = shared-there s n arg fits
+fits-wired s n (Map k arg) fits = (fits.0, shared-there s n arg fits.1)
+fits-wired s n (Mul left right) fits = (shared-there s n left fits.0, shared-there s n right fits.1)
+fits-wired s n (Refresh arg) fits = absurd fits
+
+-- at most two operands are shared
+pub operands-short : (code : Listing) (op : Op) → length (map (value_number code) (shared_operands op)) ≤ 2
+operands-short code (Const value) = omega arith
+operands-short code (PubAdd left right) = omega arith
+operands-short code (PubMul left right) = omega arith
+operands-short code (PubSq arg) = omega arith
+operands-short code (PubMap k arg) = omega arith
+operands-short code (Lift arg) = omega arith
+operands-short code (Add left right) = omega arith
+operands-short code (AddPub left right) = omega arith
+operands-short code (Scale left right) = omega arith
+operands-short code (Sq arg) = omega arith
+operands-short code (Map k arg) = omega arith
+operands-short code (Mul left right) = omega arith
+operands-short code (Refresh arg) = omega arith
+
+-- the number of each of some operands is below a bound
+numbers-below : (code : Listing) (before : List Op) (n : ℕ) (vs : List Operand) (k v : ℕ) → length before ≤ n → Each (IsSharedThere code before) vs
+    → slice_get (map (value_number code) vs) k ≡ Some v → v < code.secrets + code.publics + n
+unfolding Each
+numbers-below code before n [] k v long each there = absurd (cc)
+numbers-below code before n (w ∷ vs) zero v long each there =
+    let same : value_number code w ≡ v = cc in
+    omega (arith, number-there code before w each.0, same, long)
+numbers-below code before n (w ∷ vs) (suc k) v long each there = numbers-below code before n vs k v long each.1 there
+
+module _ (s : Values) (is : IsValues s) where
+  -- each value is wired
+  pub wired-value : (i : ℕ) (op : Op) → slice_get s.values i ≡ Some op → IsWired (plain s) (take i s.values) op
+  wired-value i op there = fits-wired s i op (is.made.fit i op there)
+
+  -- its shared operands come before it
+  pub operands-before : (i : ℕ) (op : Op) → slice_get s.values i ≡ Some op → AreOperands (inputs s + i) (shared_numbers s op)
+  operands-before i op there =
+      let within : i < length s.values = slice_get_within s.values i op there in
+      record {
+        short = operands-short (plain s) op;
+        below = λ k v at. numbers-below (plain s) (take i s.values) i (shared_operands op) k v
+            (omega (arith, length-take-le i s.values (omega (arith, within))))
+            (wired-operands (plain s) (take i s.values) op (wired-value i op there)).0 at;
+      }

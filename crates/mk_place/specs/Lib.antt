@@ -1,0 +1,6 @@
+pub mod Uses
+pub mod Layout
+pub mod Placed
+pub mod Needs
+pub mod Marking
+pub mod Laying
