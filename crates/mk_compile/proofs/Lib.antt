@@ -1,0 +1,11 @@
+mod Banks
+mod Codes
+mod Corrects
+mod Emitted
+mod Gives
+mod Sharings
+mod Right
+mod Linear
+mod Recoded
+mod Whole
+mod Wires

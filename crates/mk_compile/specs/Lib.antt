@@ -1,0 +1,5 @@
+pub mod Places
+pub mod Emitting
+pub mod RightValues
+pub mod Correct
+pub mod Compiled
