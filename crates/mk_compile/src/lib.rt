@@ -1,5 +1,5 @@
-//! From a program to its code on shares, with the certificate that the code is private: the values that
-//! the program is unrolled to, simplified, and their templates.
+//! The back end of the compiler: code made of the blocks of a certificate, and the laws that such code
+//! computes on shares what the blocks stand for. No command uses it yet.
 #![tactic(auto)]
 
 mod bundle;

@@ -11,7 +11,8 @@ use mk_rules::Cert;
 use mk_ssa::Ssa;
 use std::alloc::Global;
 
-/// The certificate of the values with refreshes where they are needed, and the outputs as claims.
+/// The certificate of the values, with a refresh at each use that the pass from the last use to the first
+/// marks, and the outputs as claims. `Memory` comes where memory is wanted and not found.
 pub fn place(alloc: Global, s: &Ssa) -> Result<Cert, Memory>
     ensures { IfOk result (λ cert. cert ≡ laid_out_by (all_marks s.now) s.now) }
 {
