@@ -173,9 +173,9 @@ module _ {A : Type 0} where
   }
 
 -- one phrase, and then the other
-pub reads_and : {A B : Type 0} {R1 R2 : List ℕ → Type 0} {first : Phrase A} {second : Phrase B} {L1 : A → Type 0} {L2 : B → Type 0} (x y : List ℕ) →
-    ((rest : List ℕ) → R2 rest → R1 (y ++ rest)) → Reading R1 first L1 x → Reading R2 second L2 y →
-    Reading R2 (first and second) (λ p. L1 p.0 × L2 p.1) (x ++ y)
+pub reads_and : {A B : Type 0} {FirstRest SecondRest : List ℕ → Type 0} {first : Phrase A} {second : Phrase B} {LikeFirst : A → Type 0} {LikeSecond : B → Type 0} (x y : List ℕ) →
+    ((rest : List ℕ) → SecondRest rest → FirstRest (y ++ rest)) → Reading FirstRest first LikeFirst x → Reading SecondRest second LikeSecond y →
+    Reading SecondRest (first and second) (λ p. LikeFirst p.0 × LikeSecond p.1) (x ++ y)
 reads_and x y may one_reading other_reading = record {
   at = λ text gap rest g r.
       let one_read = one_reading.at text gap (y ++ rest) g (may rest r) in

@@ -20,9 +20,6 @@ pub enum Limit {
 /// Why a source is refused, with the place where.
 #[derive(Clone, Copy, Debug, PartialEq, Eq, Error)]
 pub enum SourceRefusal {
-    /// 30: a program of a form that is not compiled yet.
-    #[error("a program of a form that is not compiled yet")]
-    NotYet(Place),
     /// 31: no program begins so.
     #[error("no program begins so")]
     Syntax(Place),
