@@ -86,13 +86,13 @@ Each-tapes q zero = (Elements-nil q, tt)
 Each-tapes q (suc n) = Each-joined (Elements q (suc n)) q (λ a. map (λ s. a ∷ s) (tapes q n)) (λ a below. Each-front q n a (tapes q n) below (Each-tapes q n))
 
 -- a list equals itself
-one_if_equal-self : (xs : List ℕ) → one_if_equal xs xs ≡ 1
+pub one_if_equal-self : (xs : List ℕ) → one_if_equal xs xs ≡ 1
 unfolding one_if_equal
 one_if_equal-self [] = refl
 one_if_equal-self (x ∷ xs) = cond-true (nat_eq x x) (one_if_equal xs xs) 0 (eq-eqb x x refl) ∙ one_if_equal-self xs
 
 -- lists are equal, or this is 0
-one_if_equal-cases : (xs ys : List ℕ) → (xs ≡ ys) ⊎ (one_if_equal xs ys ≡ 0)
+pub one_if_equal-cases : (xs ys : List ℕ) → (xs ≡ ys) ⊎ (one_if_equal xs ys ≡ 0)
 unfolding one_if_equal
 one_if_equal-cases [] [] = inl refl
 one_if_equal-cases [] (y ∷ ys) = inr refl

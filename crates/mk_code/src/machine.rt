@@ -65,6 +65,19 @@ impl<'a> Machine<'a> {
         })
     }
 
+    /// Begins another run of the same code, in the memory of the run before: its trace so far is the
+    /// shares of the secrets, secret by secret, and the public inputs. It takes no memory.
+    pub fn restart(&mut self, publics: &[u8], shares: &[u8])
+        requires publics { Elements (size self.old.code.field) self.old.code.publics publics.now }
+        requires shares { Elements (size self.old.code.field) (self.old.code.secrets * (self.old.code.order + 1)) shares.now }
+        ensures { self.new ≡ record { code = self.old.code; at = 0; entries = shares.now ++ publics.now } }
+    {
+        self.at = 0;
+        self.entries.clear();
+        self.entries.extend_from_slice(shares).unwrap();
+        self.entries.extend_from_slice(publics).unwrap();
+    }
+
     /// Carries out the next instruction, with `word` as the next element of the tape, and answers
     /// whether it took it. It takes no memory.
     pub fn step(&mut self, word: u8) -> Used
