@@ -1,13 +1,13 @@
 -- What flows back along uses: which places each value reaches, and which uses are marked.
-use Rattle.std.proofs.Common.{◌≡◌, ◌≢◌, ◌⊎◌, ℕ, ◌+◌, ◌<◌, ◌≤◌, Bool, true, false, not, ◌&&◌, List, [], ◌∷◌, ◌++◌, nat_eq, if◌then◌else◌, refl, sym, ◌∙◌, ap, subst, inl, inr, arith}
+use Rattle.std.proofs.Common.{◌≡◌, ◌⊎◌, ℕ, ◌+◌, ◌<◌, true, false, ◌&&◌, List, [], ◌∷◌, ◌++◌, nat_eq, refl, sym, ◌∙◌, ap, subst, inl, inr, arith}
 use Rattle.std.specs.List.{Contains}
 use Rattle.std.proofs.lemmas.Bool.{cases_Bool, cases_eq, cond-true, cond-false, and_from, and_left, and_right, eqb-true, eq-eqb, ne_eqb, false≢true}
 use Rattle.std.proofs.lemmas.List.Elements.{Contains-append_right}
 use Rattle.mk_ssa.specs.Kinds.{Kind, Public, Linear, Strong}
 use Rattle.mk_place.specs.declared.need.Place.{Place}
 use Rattle.mk_place.specs.Uses.{Use}
-use Rattle.mk_place.specs.Needs.{clash, added, brought_by, brought, with_use, needs_by, mark_by, marks_by}
-use Rattle.mk_place.proofs.Joining.{none-in, only-in, in-cases, in-front, in-behind, and-parts, Clashing, clash-at, added-left, added-right, added-from}
+use Rattle.mk_place.specs.Needs.{added, brought_by, brought, with_use, needs_by, mark_by, marks_by}
+use Rattle.mk_place.proofs.Joining.{none-in, only-in, in-cases, in-front, in-behind, and-parts, clash-at, added-left, added-right, added-from}
 
 -- a use of this value
 pub with_use-own : (inputs : ℕ) (needs : ℕ → List Place) (u : Use) (v : ℕ) → v ≡ u.operand

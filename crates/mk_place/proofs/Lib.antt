@@ -1,8 +1,16 @@
 mod Joining
 mod Flow
 mod Taking
-mod Wiring
+pub mod Wiring
 mod Stepping
 mod Worked
 mod Naming
 mod Placing
+pub mod Blocks
+pub mod Fitting
+mod Differing
+pub mod Using
+mod Hops
+mod Reaching
+mod Holding
+mod Alike

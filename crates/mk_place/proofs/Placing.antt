@@ -1,9 +1,9 @@
 -- The layout of values by the marks of the pass.
-use Rattle.std.proofs.Common.{◌≡◌, ℕ, zero, suc, ◌+◌, ◌-◌, ◌<◌, ◌≤◌, Bool, true, false, Option, Some, None, IsSome, IsSomeAnd, List, [], ◌∷◌, ◌++◌, length, take, drop, map, slice_get, get_or, refl, sym, ◌∙◌, ap, ap₂, subst, arith, inl, inr, append_assoc}
+use Rattle.std.proofs.Common.{◌≡◌, ℕ, zero, suc, ◌+◌, ◌-◌, ◌<◌, ◌≤◌, true, false, Some, IsSome, List, [], ◌∷◌, ◌++◌, length, take, drop, map, slice_get, get_or, refl, sym, ◌∙◌, ap, ap₂, subst, arith, inl, inr, append_assoc}
 use Rattle.std.specs.List.{All, Contains}
 use Rattle.std.proofs.lemmas.List.Elements.{All-contains}
 use Rattle.std.proofs.lemmas.Bool.{cases_eq, false≢true}
-use Rattle.std.proofs.lemmas.Option.{slice_get_within, get_or_from_slice_get}
+use Rattle.std.proofs.lemmas.Option.{slice_get_within}
 use Rattle.std.proofs.lemmas.List.{length-take-le, map-append, take_more, take_all}
 use Rattle.mk_ssa.specs.declared.Op.{Op}
 use Rattle.mk_ssa.specs.declared.Op.TheVariants.{Const, PubAdd, PubMul, PubSq, PubMap, Lift, Add, AddPub, Scale, Sq, Map, Mul, Refresh}
@@ -15,7 +15,7 @@ use Rattle.mk_ssa.proofs.Lists.{IsSomeAnd-value}
 use Rattle.mk_rules.specs.Tiles.{value_number}
 use Rattle.mk_rules.specs.Reaches.{Link, links}
 use Rattle.mk_place.specs.declared.marking.Fresh.{Fresh}
-use Rattle.mk_place.specs.Uses.{Use, plain, uses, uses_by, uses_from}
+use Rattle.mk_place.specs.Uses.{Use, plain, uses_by, uses_from}
 use Rattle.mk_place.specs.Layout.{renamed, laid_out, blocks_before, blocks_from}
 use Rattle.mk_rules.specs.Claimed.{Claimed}
 use Rattle.mk_place.specs.Needs.{marks_by}
@@ -109,6 +109,15 @@ pub laid-none : (s : Values) → IsLaid (all_marks s) s.values 0 [] []
 unfolding blocks_before blocks_from
 laid-none s = record { same = refl; count = refl; long = refl; each = λ k below. absurd (omega (arith, below)) }
 
+-- what is marked of a value is there
+pub marked-there : (s : Values) (i k : ℕ) (op : Op) → slice_get s.values i ≡ Some op → all_marks s i k ≡ true → IsSome (slice_get (shared_operands op) k)
+marked-there s i k op there on =
+    let e : marks_by (inputs s) (uses_by i (kind op) 0 (shared_numbers s op) ++ uses_behind s (suc i)) i k ≡ true =
+    ap (λ (us : List Use). marks_by (inputs s) us i k) (sym (uses-next s i op there)) ∙ sym (marks-all s i k) ∙ on in
+    some-map (value_number (plain s)) (shared_operands op) k
+    (some-at (shared_numbers s op) (k - 0) k (omega arith) (marks-there (inputs s) i (kind op) 0 (shared_numbers s op) (uses_behind s (suc i)) k
+    (λ j. marks-none (inputs s) (suc i) (drop (suc i) (links (plain s) s.values)) i j (omega arith)) e).1)
+
 module _ (s : Values) (is : IsValues s) (i : ℕ) (op : Op) (there : slice_get s.values i ≡ Some op) (blocks : List Op) (names : List ℕ)
     (laid : IsLaid (all_marks s) s.values i blocks names) where
   -- there is a name for each operand of the next value
@@ -116,15 +125,6 @@ module _ (s : Values) (is : IsValues s) (i : ℕ) (op : Op) (there : slice_get s
   next-named =
       let within : i < length s.values = slice_get_within s.values i op there in
       fits-has (draft s) i names op (omega (arith, within)) laid.long (is.made.fit i op there)
-
-  -- what is marked of it is there
-  marked-there : (k : ℕ) → all_marks s i k ≡ true → IsSome (slice_get (shared_operands op) k)
-  marked-there k on =
-      let e : marks_by (inputs s) (uses_by i (kind op) 0 (shared_numbers s op) ++ uses_behind s (suc i)) i k ≡ true =
-      ap (λ (us : List Use). marks_by (inputs s) us i k) (sym (uses-next s i op there)) ∙ sym (marks-all s i k) ∙ on in
-      some-map (value_number (plain s)) (shared_operands op) k
-      (some-at (shared_numbers s op) (k - 0) k (omega arith) (marks-there (inputs s) i (kind op) 0 (shared_numbers s op) (uses_behind s (suc i)) k
-      (λ j. marks-none (inputs s) (suc i) (drop (suc i) (links (plain s) s.values)) i j (omega arith)) e).1)
 
   -- the next value is laid
   pub laid-next : (fresh : List Fresh) (x : Fresh) → AreMarks s 0 fresh → slice_get fresh (length s.values - suc i) ≡ Some x
@@ -135,7 +135,7 @@ module _ (s : Values) (is : IsValues s) (i : ℕ) (op : Op) (there : slice_get s
       let same : Some x ≡ Some (marks_of s i) = sym at ∙ are.each i (omega arith) within in
       let x_is : x ≡ marks_of s i = cc in
       laid-step (all_marks s) s.values i op blocks names x laid there next-named
-      (ap (λ (y : Fresh). y.first) x_is ∙ sym (marks-all s i 0)) (ap (λ (y : Fresh). y.second) x_is ∙ sym (marks-all s i 1)) marked-there
+      (ap (λ (y : Fresh). y.first) x_is ∙ sym (marks-all s i 0)) (ap (λ (y : Fresh). y.second) x_is ∙ sym (marks-all s i 1)) (λ k on. marked-there s i k op there on)
 
 -- an output has a name, when all values are laid
 draft-has : (s : Values) (names : List ℕ) (v : Operand) → length names ≡ length s.values → IsSharedThere (draft s) v → HasName names v

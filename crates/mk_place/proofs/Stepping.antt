@@ -1,5 +1,5 @@
 -- The pass from the last value to the first: what it begins with, and what each step leaves.
-use Rattle.std.proofs.Common.{◌≡◌, ◌⊎◌, ℕ, zero, suc, ◌+◌, ◌-◌, ◌<◌, ◌≤◌, Bool, true, false, Option, Some, None, IfSome, List, [], ◌∷◌, ◌++◌, length, drop, map, slice_get, get_or, refl, sym, ◌∙◌, ap, subst, inl, inr, arith}
+use Rattle.std.proofs.Common.{◌≡◌, ℕ, suc, ◌+◌, ◌-◌, ◌<◌, Bool, Option, Some, None, IfSome, List, [], ◌∷◌, ◌++◌, length, drop, slice_get, get_or, refl, sym, ◌∙◌, ap, subst, inl, inr, arith}
 use Rattle.std.proofs.lemmas.Bool.{cases_eq}
 use Rattle.std.proofs.lemmas.List.{length-append, length-set, get_or_append_left, get_or_push, drop_all}
 use Rattle.mk_ssa.specs.declared.Op.{Op}
@@ -13,7 +13,7 @@ use Rattle.mk_place.specs.Uses.{Use, plain, uses_by, uses_from}
 use Rattle.mk_place.specs.Needs.{added, brought_by, needs_by, marks_by}
 use Rattle.mk_place.specs.Marking.{AreNeeds, AreNeedsAt, AreMarks, inputs, taken, taken_mark, uses_behind, mark_at, shared_numbers}
 use Rattle.mk_place.proofs.Joining.{place_of}
-use Rattle.mk_place.proofs.Taking.{IsStepped, step-needs, uses-next, marks-none, AreOperands}
+use Rattle.mk_place.proofs.Taking.{IsStepped, step-needs, uses-next, marks-none}
 use Rattle.mk_place.proofs.Wiring.{operands-before}
 
 -- the table without its last need

@@ -1,18 +1,18 @@
 -- One step of the pass from the last value to the first.
-use Rattle.std.proofs.Common.{◌≡◌, ◌⊎◌, ℕ, zero, suc, ◌+◌, ◌<◌, ◌≤◌, Bool, true, false, ◌&&◌, Option, Some, None, List, [], ◌∷◌, ◌++◌, length, drop, slice_get, nat_eq, get_or, set, if◌then◌else◌, refl, sym, ◌∙◌, ap, subst, inl, inr, arith}
+use Rattle.std.proofs.Common.{◌≡◌, ℕ, zero, suc, ◌+◌, ◌<◌, ◌≤◌, false, ◌&&◌, Some, List, [], ◌∷◌, ◌++◌, length, drop, slice_get, nat_eq, get_or, set, refl, sym, ◌∙◌, ap, inl, inr, arith}
 use Rattle.std.proofs.lemmas.Bool.{cases_eq, cond-true, cond-false, and_from, and_left, and_right, eq-eqb, ne_eqb}
 use Rattle.std.proofs.lemmas.List.{length-set, get_or-set_same, get_or-set_other}
 use Rattle.std.proofs.lemmas.Option.{same_Some}
 use Rattle.mk_code.specs.Listing.{Listing}
 use Rattle.mk_ssa.specs.declared.Op.{Op}
-use Rattle.mk_ssa.specs.Kinds.{Kind, Public, Linear, Strong, kind, shared_operands}
+use Rattle.mk_ssa.specs.Kinds.{Kind, kind}
 use Rattle.mk_ssa.specs.Values.{Values}
 use Rattle.mk_rules.specs.Reaches.{Link, links}
 use Rattle.mk_rules.proofs.Doubled.{link_of}
 use Rattle.mk_place.specs.declared.need.Place.{Place}
 use Rattle.mk_place.specs.Uses.{Use, plain, uses_by, uses_from}
 use Rattle.mk_place.specs.Needs.{clash, added, brought_by, brought, with_use, needs_by, mark_by, marks_by}
-use Rattle.mk_place.specs.Marking.{AreNeeds, AreNeedsAt, inputs, taken, taken_mark, uses_behind, mark_at, shared_numbers}
+use Rattle.mk_place.specs.Marking.{AreNeeds, inputs, taken, taken_mark, uses_behind, shared_numbers}
 use Rattle.mk_place.proofs.Joining.{place_of}
 use Rattle.mk_place.proofs.Flow.{with_use-own, with_use-other, needs-cons}
 

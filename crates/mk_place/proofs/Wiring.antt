@@ -1,18 +1,17 @@
 -- The values are wired as blocks.
-use Rattle.std.proofs.Common.{◌≡◌, false, true, ℕ, zero, suc, ◌+◌, ◌<◌, ◌≤◌, List, [], ◌∷◌, ◌++◌, length, take, map, slice_get, Option, Some, IsSomeAnd, refl, sym, ◌∙◌, ap, subst, arith, inl, inr}
+use Rattle.std.proofs.Common.{◌≡◌, ℕ, zero, suc, ◌+◌, ◌<◌, ◌≤◌, List, [], ◌∷◌, length, take, map, slice_get, Some, arith}
 use Rattle.std.proofs.lemmas.Option.{slice_get_within}
-use Rattle.std.proofs.lemmas.List.{length-take-le, append_assoc}
+use Rattle.std.proofs.lemmas.List.{length-take-le}
 use Rattle.mk_code.specs.Listing.{Listing}
 use Rattle.mk_ssa.specs.declared.Op.{Op}
 use Rattle.mk_ssa.specs.declared.Op.TheVariants.{Const, PubAdd, PubMul, PubSq, PubMap, Lift, Add, AddPub, Scale, Sq, Map, Mul, Refresh}
 use Rattle.mk_ssa.specs.declared.Operand.{Operand}
 use Rattle.mk_ssa.specs.declared.Operand.TheVariants.{Secret, Public, Block}
-use Rattle.mk_ssa.specs.Kinds.{Kind, kind, is_public, shared_operands}
+use Rattle.mk_ssa.specs.Kinds.{shared_operands}
 use Rattle.mk_ssa.specs.Values as ssa
 use Rattle.mk_ssa.specs.Values.{Values, Draft, draft, front, IsValues, IsDraft}
 use Rattle.mk_rules.specs.Tiles.{value_number}
-use Rattle.mk_rules.specs.Wired.{IsSharedThere, IsPublicThere, IsWired, AllWired, Wired}
-use Rattle.mk_rules.proofs.Places.{slice_get-take}
+use Rattle.mk_rules.specs.Wired.{IsSharedThere, IsPublicThere, IsWired}
 use Rattle.mk_rules.proofs.Operators.{wired-operands, Each}
 use Rattle.mk_rules.proofs.Doubled.{number-there}
 use Rattle.mk_place.specs.Uses.{plain}

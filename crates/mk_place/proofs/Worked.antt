@@ -1,12 +1,11 @@
 -- Worked values: the product of a secret with itself, and the S-box of FIPS 197 by the power 254.
-use Rattle.std.proofs.Common.{◌≡◌, ℕ, Bool, true, false, ◌&&◌, ◌||◌, nat_eq, List, [], ◌∷◌, refl}
+use Rattle.std.proofs.Common.{◌≡◌, true, false, ◌&&◌, ◌||◌, nat_eq, [], ◌∷◌, refl}
 use Rattle.mk_field.specs.declared.field.FieldId.TheVariants.{Gf2, Gf256}
-use Rattle.mk_ssa.specs.declared.Op.{Op}
 use Rattle.mk_ssa.specs.declared.Op.TheVariants.{Const, AddPub, Sq, Map, Mul, Refresh}
 use Rattle.mk_ssa.specs.declared.Operand.TheVariants.{Secret, Block}
 use Rattle.mk_ssa.specs.Kinds.{Strong}
 use Rattle.mk_ssa.specs.Values.{Values}
-use Rattle.mk_place.specs.Uses.{Use, uses, uses_by, uses_from}
+use Rattle.mk_place.specs.Uses.{uses, uses_by, uses_from}
 use Rattle.mk_place.specs.Layout.{Marks, laid_out, blocks_before, blocks_from}
 use Rattle.mk_place.specs.Needs.{needs_by, marks_by, joined}
 use Rattle.mk_place.proofs.Taking.{use_of}

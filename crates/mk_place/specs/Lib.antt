@@ -4,3 +4,4 @@ pub mod Placed
 pub mod Needs
 pub mod Marking
 pub mod Laying
+pub mod Different

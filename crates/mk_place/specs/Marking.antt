@@ -1,7 +1,7 @@
 -- What the pass from the last value to the first holds.
-use Rattle.std.specs.Prelude.{◌≡◌, ℕ, suc, ◌+◌, ◌-◌, ◌<◌, ◌≤◌, Bool, true, false, Option, None, Some, List, [], ◌∷◌, length, map, drop, slice_get, slice_index_or, slice_set, if◌then◌else◌}
+use Rattle.std.specs.Prelude.{◌≡◌, ℕ, suc, ◌+◌, ◌-◌, ◌<◌, ◌≤◌, Bool, false, Option, None, Some, List, [], length, map, drop, slice_get, slice_index_or, slice_set}
 use Rattle.mk_ssa.specs.declared.Op.{Op}
-use Rattle.mk_ssa.specs.Kinds.{Kind, Strong, kind, shared_operands}
+use Rattle.mk_ssa.specs.Kinds.{shared_operands}
 use Rattle.mk_ssa.specs.Values.{Values}
 use Rattle.mk_rules.specs.Tiles.{value_number}
 use Rattle.mk_rules.specs.Reaches.{links}

@@ -1,5 +1,5 @@
 -- Needs: for each value the places of products that it reaches, from the last use to the first.
-use Rattle.std.specs.Prelude.{ℕ, ◌+◌, Bool, true, false, ◌&&◌, not, nat_eq, List, [], ◌∷◌, ◌++◌, if◌then◌else◌}
+use Rattle.std.specs.Prelude.{ℕ, ◌+◌, Bool, false, ◌&&◌, not, nat_eq, List, [], ◌∷◌, ◌++◌, if◌then◌else◌}
 use Rattle.std.specs.List.{list_any}
 use Rattle.mk_ssa.specs.Kinds.{Kind, Public, Linear, Strong}
 use Rattle.mk_place.specs.declared.need.Place.{Place}

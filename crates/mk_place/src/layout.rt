@@ -146,7 +146,8 @@ fn claim_outs(cert: &mut Cert, names: &[u32], s: &Ssa) -> Result<(), Memory>
 /// The certificate of values, of which these uses go through refreshes, the last value first.
 pub(crate) fn laid_out(alloc: Global, s: &Ssa, fresh: &[Fresh]) -> Result<Cert, Memory>
     requires { AreMarks s.now 0 fresh.now }
-    ensures { IfOk result (λ cert. cert ≡ laid_out_by (all_marks s.now) s.now) }
+    ensures laid { IfOk result (λ cert. cert ≡ laid_out_by (all_marks s.now) s.now) }
+    ensures fits { IsValues s.now }
 {
     let (mut cert, names) = lay_values(alloc, s, fresh)?;
     claim_outs(&mut cert, names.as_slice(), s)?;

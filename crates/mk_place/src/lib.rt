@@ -2,10 +2,12 @@
 //! both operands of one product.
 #![tactic(auto)]
 
+mod laws;
 mod layout;
 mod marking;
 mod need;
 mod operands;
 mod placement;
 
+pub use laws::{different_law, placement_law};
 pub use placement::place;

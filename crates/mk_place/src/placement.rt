@@ -1,8 +1,10 @@
 //! Placement: the marks, and then the certificate.
 
-ghost use Rattle.std.specs.Prelude.{◌≡◌, IfOk};
-ghost use Rattle.mk_place.specs.Layout.{laid_out as laid_out_by};
-ghost use Rattle.mk_place.specs.Marking.{all_marks};
+ghost use Rattle.std.specs.Prelude.{◌+◌, ◌*◌, ◌≤◌, All, IfOk, length};
+ghost use Rattle.mk_rules.specs.Wired.{IsSharedThere, Wired};
+ghost use Rattle.mk_rules.specs.Reaches.{Undoubled, links};
+ghost use Rattle.mk_place.specs.Uses.{plain};
+ghost use Rattle.mk_place.specs.Placed.{Placed};
 
 use crate::layout::laid_out;
 use crate::marking::marks;
@@ -11,10 +13,14 @@ use mk_rules::Cert;
 use mk_ssa::Ssa;
 use std::alloc::Global;
 
-/// The certificate of the values, with a refresh at each use that the pass from the last use to the first
-/// marks, and the outputs as claims. `Memory` comes where memory is wanted and not found.
+/// The certificate of the values, with a refresh at each use that needs one and the outputs as claims; no
+/// value reaches both places of one product. `Memory` comes where memory is wanted and not found.
 pub fn place(alloc: Global, s: &Ssa) -> Result<Cert, Memory>
-    ensures { IfOk result (λ cert. cert ≡ laid_out_by (all_marks s.now) s.now) }
+    ensures placed { IfOk result (λ cert. Placed s.now cert) }
+    ensures wired { IfOk result (λ cert. Wired (plain s.now) cert.blocks) }
+    ensures claims { IfOk result (λ cert. All (IsSharedThere (plain s.now) cert.blocks) cert.claims) }
+    ensures undoubled { IfOk result (λ cert. Undoubled (s.now.secrets + s.now.publics) (links (plain s.now) cert.blocks)) }
+    ensures few { IfOk result (λ cert. length cert.blocks ≤ 3 * length s.now.values) }
 {
     let fresh = marks(alloc, s)?;
     laid_out(alloc, s, fresh.as_slice())

@@ -1,5 +1,5 @@
 -- Each value is taken behind those after it.
-use Rattle.std.proofs.Common.{◌≡◌, ◌+◌, ◌-◌, ◌∷◌, ◌++◌, [], ℕ, suc, List, length, sym, ◌∙◌, ap, subst, arith}
+use Rattle.std.proofs.Common.{◌≡◌, ◌+◌, ◌-◌, [], ℕ, suc, List, length, sym, ◌∙◌, ap, subst, arith}
 use Rattle.mk_ssa.specs.declared.Op.{Op}
 use Rattle.mk_ssa.specs.Values.{Values}
 use Rattle.mk_place.specs.declared.marking.Fresh.{Fresh}

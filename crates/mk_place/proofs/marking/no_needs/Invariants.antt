@@ -1,5 +1,5 @@
 -- So many values have no need.
-use Rattle.std.proofs.Common.{◌≡◌, ℕ, [], length}
+use Rattle.std.proofs.Common.{ℕ, []}
 use Rattle.mk_place.specs.Marking.{AreNeeds}
 use Rattle.mk_place.proofs.marking.no_needs.Given as goal
 

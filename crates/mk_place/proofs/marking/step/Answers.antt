@@ -1,15 +1,13 @@
 -- A step takes the uses by one value.
-use Rattle.std.proofs.Common.{◌≡◌, ◌<◌, ◌∷◌, ◌++◌, [], ℕ, List, Option, Some, IfSome, length, slice_get, slice_index_or, set, sym, ◌∙◌, ap, subst, arith, rules}
+use Rattle.std.proofs.Common.{◌≡◌, ◌<◌, ◌∷◌, ◌++◌, [], List, Option, Some, length, slice_get, slice_index_or, ◌∙◌, ap, subst, arith}
 use Rattle.std.specs.Option.{option_to_list}
 use Rattle.std.proofs.lemmas.Option.{slice_get-get_or}
-use Rattle.std.proofs.lemmas.List.{length-set}
 use Rattle.mk_ssa.specs.declared.Op.{Op}
 use Rattle.mk_ssa.specs.declared.Op.TheVariants.{Const}
 use Rattle.mk_ssa.specs.Kinds.{kind}
 use Rattle.mk_ssa.specs.Values.{Values}
 use Rattle.mk_place.specs.declared.need.Place.{Place}
 use Rattle.mk_place.specs.Needs.{brought_by}
-use Rattle.mk_place.specs.Marking.{taken}
 use Rattle.mk_place.proofs.Joining.{place_of}
 use Rattle.mk_place.proofs.Stepping.{room, taken-room, needs-step, first-step, second-step}
 use Rattle.mk_place.proofs.marking.step.Goals as goal

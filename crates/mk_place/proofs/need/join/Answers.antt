@@ -1,10 +1,9 @@
 -- Each place is joined behind those before it.
-use Rattle.std.proofs.Common.{◌≡◌, ◌+◌, ◌∷◌, [], refl, sym, ◌∙◌, ap, take, get_or, List}
+use Rattle.std.proofs.Common.{refl, sym, ◌∙◌, ap, take, get_or, List}
 use Rattle.std.proofs.lemmas.List.{take_more}
 use Rattle.mk_place.specs.declared.need.Place.{Place}
 use Rattle.mk_place.specs.Needs.{joined, with_place}
 use Rattle.mk_place.proofs.Joining.{joined-last, place_of}
-use Rattle.mk_place.proofs.Wiring.{operands-before}
 use Rattle.mk_place.proofs.need.join.Goals as goal
 
 pub loop-place-init : goal.loop-place-init
