@@ -1,7 +1,6 @@
 -- Code that is made of a certificate that stands for what a program is unrolled to is correct.
-use Rattle.std.proofs.Common.{◌≡◌, ℕ, zero, suc, ◌+◌, ◌*◌, ◌<◌, List, [], ◌∷◌, Some, length, map, take, drop, slice_index_or, flat_map, arith, sym, ◌∙◌, ap, refl, subst}
+use Rattle.std.proofs.Common.{◌≡◌, ℕ, zero, suc, ◌+◌, ◌*◌, ◌<◌, List, [], Some, length, map, take, drop, slice_index_or, sym, ◌∙◌, ap, refl, subst}
 use Rattle.std.specs.List.{AllByRecursion}
-use Rattle.std.proofs.lemmas.List.{length-append}
 use Rattle.std.proofs.lemmas.List.Elements.{All-from_recursion, recursion_from_All}
 use Rattle.mk_field.specs.declared.field.FieldId.{FieldId}
 use Rattle.mk_field.specs.Field.{bits, size}
@@ -28,18 +27,13 @@ use Rattle.mk_gadget.specs.Refresh.{refresh_gadget}
 use Rattle.mk_rules.specs.Claimed.{Claimed}
 use Rattle.mk_rules.specs.Tiles.{value_number}
 use Rattle.mk_rules.specs.Wired.{IsSharedThere}
+use Rattle.mk_rules.proofs.Claims.{length-parted}
 use Rattle.mk_rules.proofs.Laid.{bank-long}
 use Rattle.mk_rules.proofs.BuiltIn.{built_in-given}
 use Rattle.mk_compile.specs.Emitting.{built_banks}
 use Rattle.mk_compile.specs.RightValues.{stands_for}
 use Rattle.mk_compile.specs.Correct.{Correct, IsMadeFor}
 use Rattle.mk_compile.proofs.Whole.{claims-right}
-
--- how many elements lists of one length have together
-length-each : {X : Type 0} (n : ℕ) (f : X → List ℕ) (P : X → Type 0) (xs : List X) → AllByRecursion P xs → ((x : X) → P x → length (f x) ≡ n)
-    → length (flat_map f xs) ≡ length xs * n
-length-each n f P [] all size = omega arith
-length-each n f P (x ∷ xs) all size = omega (arith, length-append (f x) (flat_map f xs), size x all.0, length-each n f P xs all.1 size)
 
 -- what sharings decode to are elements
 decoded-elements : (field : FieldId) (n k : ℕ) (shares : List ℕ) → AllBelow (size field) shares → AllByRecursion (λ a. a < size field) (decoded n k shares)
@@ -98,7 +92,7 @@ module _ (p : Program) (order : ℕ) (code : Listing) (cert : Claimed) (regular 
         secrets = made.secrets;
         publics = made.publics;
         outputs = ap length made.outputs.outs
-            ∙ length-each n bank (IsSharedThere code cert.blocks) cert.claims
+            ∙ length-parted n bank (IsSharedThere code cert.blocks) cert.claims
             (recursion_from_All (IsSharedThere code cert.blocks) cert.claims made.outputs.there)
             (λ v there. bank-long code (product_gadget n) (refresh_gadget n) cert.blocks v made.wired (built_in-given code) there)
             ∙ ap (λ (k : ℕ). k * n) made.count ∙ ap (λ (t : ℕ). outputs_of p * (t + 1)) made.same_order;

@@ -5,7 +5,10 @@ mod Emitted
 mod Gives
 mod Sharings
 mod Right
-mod Linear
 mod Recoded
 mod Whole
 mod Wires
+mod Meanings
+mod Sizes
+mod Compiling
+pub mod Maps

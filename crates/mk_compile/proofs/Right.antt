@@ -116,7 +116,7 @@ module _ (code : Listing) where
       (v : Operand) → IsThere blocks v → sum_at code banks entries v ≡ operand_value publics secrets values v
 
   -- operators stand for the same where their operands do
-  value_by-same : (before : List Op) (of to : Operand → ℕ) (op : Op) → ((v : Operand) → IsThere before v → of v ≡ to v) → IsWired code before op
+  pub value_by-same : (before : List Op) (of to : Operand → ℕ) (op : Op) → ((v : Operand) → IsThere before v → of v ≡ to v) → IsWired code before op
       → value_by code.field code.maps of op ≡ value_by code.field code.maps to op
   value_by-same before of to (Const value) same wired = refl
   value_by-same before of to (PubAdd left right) same wired = rw (same left (inr wired.0), same right (inr wired.1)) refl

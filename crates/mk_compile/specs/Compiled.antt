@@ -1,30 +1,22 @@
--- What a program is compiled to.
-use Rattle.std.specs.Prelude.{◌≡◌, Any}
+-- What a program is compiled to, and which programs are.
+use Rattle.std.specs.Prelude.{ℕ}
 use Rattle.mk_ast.specs.declared.tree.Program.{Program}
-use Rattle.mk_ssa.specs.declared.Op.{Op}
-use Rattle.mk_ssa.specs.declared.Op.TheVariants.{Mul}
 use Rattle.mk_ssa.specs.Values.{Values}
 use Rattle.mk_simplify.specs.Simplified.{IsSimplified}
 use Rattle.mk_unroll.specs.Unrolled.{unrolled}
+use Rattle.mk_unroll.specs.Causes.{HasFewElements, Ends, IsSmall}
 use Rattle.mk_rules.specs.Claimed.{Claimed}
+use Rattle.mk_place.specs.Placed.{Placed}
 
--- a product of two shared values
-abbrev pub IsProduct : Op → Type 0
-IsProduct (Mul left right) = Unit {0}
-IsProduct _ = ⊥
-
--- values as a certificate: they are the blocks, and their outputs the claims
-abbrev pub certified : Values → Claimed
-certified s = record { blocks = s.values; claims = s.outs }
-
--- the certificate is what the program is unrolled to, simplified
+-- the certificate is what the program is unrolled to, simplified, with refreshes at the uses that need one
 pub record IsCertified (p : Program) (cert : Claimed) : Type 0 where
   pub values : Values
   pub simplified : IsSimplified (unrolled p) values
-  pub is : cert ≡ certified values
+  pub placed : Placed values cert
 
--- what the program is unrolled to has, simplified, a product of two shared values
-pub record HasProduct (p : Program) : Type 0 where
-  pub values : Values
-  pub simplified : IsSimplified (unrolled p) values
-  pub product : Any IsProduct values.values
+-- the program stays within the limits at this order: it declares few enough elements, its execution comes to
+-- its end, and its operations times the square of the number of shares are at most 1,000,000
+pub record IsWithin (p : Program) (order : ℕ) : Type 0 where
+  pub elements : HasFewElements p
+  pub ends : Ends p
+  pub small : IsSmall p order

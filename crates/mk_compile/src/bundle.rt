@@ -1,45 +1,37 @@
-//! Values, compiled: their certificate, and the code that it stands for.
+//! The code that a certificate of values stands for.
 
-ghost use Rattle.std.specs.Prelude.{◌≡◌, ◌≤◌, ◌+◌, ◌↔◌, Any, IfOk, IsTrue, length};
+ghost use Rattle.std.specs.Prelude.{◌≡◌, ◌≤◌, ◌+◌, All, IfOk, length};
 ghost use Rattle.mk_code.specs.Private.{Private};
 ghost use Rattle.mk_rules.specs.Accepts.{IsAccepted};
 ghost use Rattle.mk_rules.specs.Privacy.{HasElementImages};
-ghost use Rattle.mk_compile.specs.Compiled.{IsProduct, certified};
+ghost use Rattle.mk_rules.specs.Reaches.{Undoubled, links};
+ghost use Rattle.mk_rules.specs.Wired.{IsSharedThere, Wired};
+ghost use Rattle.mk_place.specs.Uses.{plain};
 ghost use Rattle.mk_compile.specs.Emitting.{bare, blocks_len, code_of};
 
 use crate::code::emit_code;
 use crate::places::Inputs;
 use mk_base::Memory;
 use mk_rules::{Bundle, Cert, images_law};
-use mk_ssa::{Op, Ssa};
+use mk_ssa::Ssa;
 use std::alloc::Global;
 
-/// The certificate of values: they are the blocks, and the outputs are the claims.
-fn certificate(alloc: Global, s: &Ssa) -> Result<Cert, Memory>
-    ensures { IfOk result (λ cert. cert ≡ record { blocks = s.now.values; claims = s.now.outs }) }
-{
-    let mut cert = Cert::new(alloc);
-    for op in s.values().as_slice() {
-        cert.push_block(*op)?;
-    }
-    for out in s.outs().as_slice() {
-        cert.push_claim(*out)?;
-    }
-    Ok(cert)
-}
-
-/// The code of values at an order, with their certificate.
-pub(crate) fn bundle_of(alloc: Global, order: u8, s: &Ssa) -> Result<Bundle, Memory>
+/// A certificate over the inputs and maps of values, with its code at an order. The rule accepts the code.
+pub(crate) fn bundle_of(alloc: Global, order: u8, s: &Ssa, cert: Cert) -> Result<Bundle, Memory>
     requires order { (1 ≤ order) × (order ≤ 8) }
     requires inputs { (s.now.secrets ≤ 65536) × (s.now.publics ≤ 65536) }
     requires maps { length s.now.maps ≤ 32768 }
-    requires few { blocks_len (order + 1) s.now.values ≤ 8388608 }
-    requires few_outs { length s.now.outs ≤ 65536 }
-    ensures cert { IfOk result (λ b. b.cert ≡ record { blocks = s.now.values; claims = s.now.outs }) }
-    ensures code { IfOk result (λ b. b.code ≡ code_of (bare s.now.field order s.now.secrets s.now.publics s.now.maps) (record { blocks = s.now.values; claims = s.now.outs })) }
+    requires wired { Wired (plain s.now) cert.blocks }
+    requires claims { All (IsSharedThere (plain s.now) cert.blocks) cert.claims }
+    requires undoubled { Undoubled (s.now.secrets + s.now.publics) (links (plain s.now) cert.blocks) }
+    requires few { blocks_len (order + 1) cert.blocks ≤ 8388608 }
+    requires few_claims { length cert.claims ≤ 65536 }
+    ensures cert { IfOk result (λ b. b.cert ≡ cert) }
+    ensures code { IfOk result (λ b. b.code ≡ code_of (bare s.now.field order s.now.secrets s.now.publics s.now.maps) cert) }
     ensures images { IfOk result (λ b. HasElementImages b.code) }
+    ensures accepted { IfOk result (λ b. IsAccepted b.code b.cert) }
+    ensures private { IfOk result (λ b. Private b.code) }
 {
-    let cert = certificate(alloc, s)?;
     let inputs = Inputs {
         secrets: s.secrets(),
         publics: s.publics(),
@@ -49,29 +41,4 @@ pub(crate) fn bundle_of(alloc: Global, order: u8, s: &Ssa) -> Result<Bundle, Mem
     let code = emit_code(alloc, s.field(), order, inputs, maps, &cert)?;
     images_law(&code);
     Ok(Bundle { code, cert })
-}
-
-/// Whether one of the values is a product of two shared ones.
-pub(crate) fn has_product(values: &[Op]) -> bool
-    ensures { IsTrue result ↔ Any IsProduct values.now }
-{
-    values.iter().any(|op| matches!(op, Op::Mul { .. }))
-}
-
-/// The code of values without products at an order, with their certificate, which the rule accepts.
-pub(crate) fn linear_bundle(alloc: Global, order: u8, s: &Ssa) -> Result<Bundle, Memory>
-    requires order { (1 ≤ order) × (order ≤ 8) }
-    requires inputs { (s.now.secrets ≤ 65536) × (s.now.publics ≤ 65536) }
-    requires maps { length s.now.maps ≤ 32768 }
-    requires few { length s.now.values ≤ 131074 }
-    requires few_outs { length s.now.outs ≤ 65536 }
-    requires linear { ¬ Any IsProduct s.now.values }
-    ensures cert { IfOk result (λ b. b.cert ≡ certified s.now) }
-    ensures code { IfOk result (λ b. b.code ≡ code_of (bare s.now.field order s.now.secrets s.now.publics s.now.maps) (certified s.now)) }
-    ensures images { IfOk result (λ b. HasElementImages b.code) }
-    ensures accepted { IfOk result (λ b. IsAccepted b.code b.cert) }
-    ensures private { IfOk result (λ b. Private b.code) }
-{
-    let _fits = s.values();
-    bundle_of(alloc, order, s)
 }

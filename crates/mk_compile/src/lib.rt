@@ -1,5 +1,5 @@
-//! The back end of the compiler: code made of the blocks of a certificate, and the laws that such code
-//! computes on shares what the blocks stand for. No command uses it yet.
+//! The compiler: a program's masked code, made of the blocks of a certificate, and the laws that such code
+//! computes on shares what the blocks stand for.
 #![tactic(auto)]
 
 mod bundle;
@@ -7,5 +7,7 @@ mod code;
 mod emit;
 mod laws;
 mod places;
+mod program;
 
 pub use laws::{correct_law, values_law};
+pub use program::compile;

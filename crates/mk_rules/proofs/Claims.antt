@@ -56,7 +56,7 @@ parted n f P (x ∷ xs) all size (suc k) below =
     subst (λ (l : List ℕ). IsSomeAnd (slice_get xs k) (λ y. P y × (f y ≡ take n l))) (sym same) (parted n f P xs all.1 size k (omega arith))
 
 -- how many elements they have
-length-parted : {X : Type 0} (n : ℕ) (f : X → List ℕ) (P : X → Type 0) (xs : List X) → AllByRecursion P xs → ((x : X) → P x → length (f x) ≡ n)
+pub length-parted : {X : Type 0} (n : ℕ) (f : X → List ℕ) (P : X → Type 0) (xs : List X) → AllByRecursion P xs → ((x : X) → P x → length (f x) ≡ n)
     → length (flat_map f xs) ≡ length xs * n
 length-parted n f P [] all size = omega arith
 length-parted n f P (x ∷ xs) all size = omega (arith, length-append (f x) (flat_map f xs), size x all.0, length-parted n f P xs all.1 size)

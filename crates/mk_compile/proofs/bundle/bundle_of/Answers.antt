@@ -1,10 +1,25 @@
--- The values are wired blocks.
-use Rattle.std.proofs.Common.{ap, ◌∙◌}
-use Rattle.mk_rules.specs.Claimed.{Claimed}
-use Rattle.mk_compile.proofs.Wires.{parts-wired}
+-- The code is over the values' inputs and maps, and so it is accepted.
+use Rattle.std.proofs.Common.{◌≡◌, ◌∙◌, ap, subst, sym}
+use Rattle.mk_code.specs.Listing.{Listing}
+use Rattle.mk_rules.specs.Accepts.{IsAccepted}
+use Rattle.mk_rules.proofs.BuiltIn.{accepted_built_in-private}
+use Rattle.mk_compile.specs.Emitting.{bare, code_of}
+use Rattle.mk_compile.proofs.Wires.{parts-wired, parts-bare, code-accepted}
 use Rattle.mk_compile.proofs.bundle.bundle_of.Goals as goal
 
 pub emit_code-requires-clause-wired : goal.emit_code-requires-clause-wired
 emit_code-requires-clause-wired c =
-    parts-wired c.args.order c.args.s.now c.values-fits.ensures.fits c.field.result c.secrets.result c.publics.result c.in_ok-maps.maps c.in_ok-cert.cert.blocks
-    c.field.ensures c.secrets.ensures c.publics.ensures (c.in_ok-maps.ensures ∙ c.maps.ensures) (ap (λ (cert : Claimed). cert.blocks) c.in_ok-cert.ensures)
+    parts-wired c.args.s.now c.args.order c.args.cert.blocks c.field.result c.secrets.result c.publics.result c.in_ok-maps.maps
+    c.field.ensures c.secrets.ensures c.publics.ensures (c.in_ok-maps.ensures ∙ c.maps.ensures) c.requires.wired
+
+pub returns-clause-accepted : goal.returns-clause-accepted
+returns-clause-accepted c =
+    let same : bare c.field.result c.args.order c.secrets.result c.publics.result c.in_ok-maps.maps
+    ≡ bare c.args.s.now.field c.args.order c.args.s.now.secrets c.args.s.now.publics c.args.s.now.maps =
+    parts-bare c.args.s.now c.args.order c.field.result c.secrets.result c.publics.result c.in_ok-maps.maps
+    c.field.ensures c.secrets.ensures c.publics.ensures (c.in_ok-maps.ensures ∙ c.maps.ensures) in
+    subst (λ (x : Listing). IsAccepted x c.args.cert) (sym (c.in_ok-code.ensures ∙ ap (λ (x : Listing). code_of x c.args.cert) same))
+    (code-accepted c.args.order c.args.s.now c.args.cert c.requires.wired c.requires.claims c.requires.undoubled)
+
+pub returns-clause-private : goal.returns-clause-private
+returns-clause-private c = accepted_built_in-private c.in_ok-code.code c.args.cert c.images_law.ensures (returns-clause-accepted c)
