@@ -1,0 +1,9 @@
+pub mod Tree
+pub mod Regularity
+pub mod Turns
+pub mod Faultless
+pub mod Counted
+pub mod AlikeUnits
+pub mod AlikeOffences
+pub mod Spelled
+pub mod Lines
