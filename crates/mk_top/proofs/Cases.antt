@@ -1,59 +1,72 @@
--- Small cases of trees of the first form.
-use Rattle.std.proofs.Common.{◌≡◌, ℕ, List, [], ◌∷◌, ◌++◌, map, Option, Some, None, refl, ap}
-use Rattle.std.specs.Prelude.{codes}
+-- What small programs decide under `compile`.
+use Rattle.std.proofs.Common.{◌≡◌, ℕ, ◌+◌, ◌*◌, ◌≤◌, List, [], ◌∷◌, Option, Some, None, refl, sym, ap, subst, codes, arith}
 use Rattle.mk_base.specs.declared.Place.{Place}
 use Rattle.mk_field.specs.declared.field.FieldId.TheVariants.{Gf256}
 use Rattle.mk_ast.specs.declared.tree.Program.{Program as Tree}
 use Rattle.mk_ast.specs.declared.tree.Decl.{Decl}
-use Rattle.mk_ast.specs.declared.tree.What.{What}
-use Rattle.mk_ast.specs.declared.tree.What.TheVariants.{Var}
+use Rattle.mk_ast.specs.declared.tree.What.TheVariants as what
 use Rattle.mk_ast.specs.declared.tree.Class.{Class}
-use Rattle.mk_ast.specs.declared.tree.Class.TheVariants.{Secret, Output}
-use Rattle.mk_ast.specs.declared.tree.Stmt.TheVariants.{Set}
+use Rattle.mk_ast.specs.declared.tree.Class.TheVariants as class_
+use Rattle.mk_ast.specs.declared.tree.Stmt.TheVariants as stmt
 use Rattle.mk_ast.specs.declared.tree.Ref.{Ref}
-use Rattle.mk_ast.specs.declared.tree.Expr.TheVariants.{Read, Sum}
-use Rattle.mk_top.specs.declared.first.Program.{Program}
-use Rattle.mk_top.specs.First.{declared, scalar, IsTreeOf}
+use Rattle.mk_ast.specs.declared.tree.Expr.TheVariants as expr
+use Rattle.mk_ast.specs.declared.tree.Index.{Index}
+use Rattle.mk_ast.specs.declared.tree.Index.TheVariants as index
+use Rattle.mk_ast.specs.declared.refusal.Limit.TheVariants as limit_
+use Rattle.mk_types.specs.Units.{WorkUnit, Step, Operation, Fault, units}
+use Rattle.mk_types.specs.Stops.{Index as IndexStop, operations, stop}
+use Rattle.mk_types.proofs.ExecutionLayers.{evaluated_layers, expr_units_layers, stmt_units_layers}
+use Rattle.mk_unroll.specs.Causes.{Elements, Stops}
+use Rattle.mk_top.specs.declared.fault.Fault.TheVariants as fault
+use Rattle.mk_top.specs.declared.fault.SourceFault.TheVariants as source
+use Rattle.mk_top.specs.Answers.{CompileDecides}
 
--- `y = a + b`, with the secrets a and b
-abbrev pub sum_of_two : Program
-sum_of_two = record { secrets = codes "a" ∷ codes "b" ∷ []; output = codes "y"; parts = codes "a" ∷ codes "b" ∷ [] }
+-- a variable of this class and size, declared at this place
+abbrev variable : Place → Class → Option ℕ → List ℕ → Decl
+variable at class size name = record { name = name; at = at; what = what.Var class size }
 
--- any place
-abbrev somewhere : Place
-somewhere = record { line = 2; column = 8 }
+-- a reference at this place
+abbrev reference : Place → Option Index → List ℕ → Ref
+reference at index name = record { name = name; at = at; index = index }
 
-abbrev variable : List ℕ → Class → Option ℕ → Decl
-variable name class size = record { name = name; at = somewhere; what = Var class size }
-
-abbrev reference : List ℕ → Ref
-reference name = record { name = name; at = somewhere; index = None }
-
--- `field gf256`, the declarations and the sum, as a tree
-abbrev tree_of_two : Tree
-tree_of_two = record {
+-- `field gf256;` `secret a;` `secret b;` `output y;` `y = a * b;`
+abbrev product : Place → Tree
+product at = record {
   field = Gf256;
-  decls = variable (codes "a") Secret None ∷ variable (codes "b") Secret None ∷ variable (codes "y") Output None ∷ [];
-  body = Set (reference (codes "y")) (Sum (Read (reference (codes "a")) ∷ Read (reference (codes "b")) ∷ [])) ∷ [];
+  decls = variable at class_.Secret None (codes "a") ∷ variable at class_.Secret None (codes "b") ∷ variable at class_.Output None (codes "y") ∷ [];
+  body = stmt.Set (reference at None (codes "y"))
+      (expr.Product (expr.Read (reference at None (codes "a")) ∷ expr.Read (reference at None (codes "b")) ∷ [])) ∷ [];
 }
 
--- the program's tree
-pub tree-sum_of_two : IsTreeOf tree_of_two sum_of_two
-tree-sum_of_two = record {
-  field = refl;
-  declarations = refl;
-  target = reference (codes "y");
-  parts = reference (codes "a") ∷ reference (codes "b") ∷ [];
-  statement = refl;
-  output = refl;
-  sum = refl;
+-- a statement and an operation
+product-units : (at : Place) → units (product at) ≡ Step ∷ Operation ∷ []
+product-units at = simp (expr_units_layers, stmt_units_layers) refl
+
+-- so it stays within the limits at the greatest order
+product-within : (at : Place) → CompileDecides 8 (product at) None
+product-within at = record {
+  elements = omega arith;
+  ends = ap stop (product-units at);
+  small = subst (λ (us : List WorkUnit). operations us * ((8 + 1) * (8 + 1)) ≤ 1000000) (sym (product-units at)) (omega arith);
 }
 
--- an array of secrets is no secret of the first form
-pub no_tree-array : (secrets : List (List ℕ)) (output : List ℕ)
-    → map declared (variable (codes "a") Secret (Some 2) ∷ variable (codes "y") Output None ∷ []) ≡ map (scalar Secret) secrets ++ scalar Output output ∷ [] → ⊥
-no_tree-array [] output e = absurd cc
-no_tree-array (s ∷ ss) output e =
-    let first : declared (variable (codes "a") Secret (Some 2)) ≡ scalar Secret s = cc in
-    let what : Var Secret (Some 2) ≡ Var Secret None = ap (λ (x : List ℕ × What). x.1) first in
-    absurd cc
+-- `field gf256;` `secret a[2];` `output y;` `y = a[2];`, where a stands at this place
+abbrev past : Place → Place → Tree
+past at here = record {
+  field = Gf256;
+  decls = variable at class_.Secret (Some 2) (codes "a") ∷ variable at class_.Output None (codes "y") ∷ [];
+  body = stmt.Set (reference at None (codes "y")) (expr.Read (reference here (Some (index.Num 2)) (codes "a"))) ∷ [];
+}
+
+past-units : (at here : Place) → units (past at here) ≡ Step ∷ Fault here ∷ []
+past-units at here = simp (evaluated_layers, expr_units_layers, stmt_units_layers) refl
+
+-- the index goes past the array
+past-index : (at here : Place) → CompileDecides 1 (past at here) (Some (fault.Source (source.Index here)))
+past-index at here = Stops (IndexStop here) (omega arith) (ap stop (past-units at here)) refl
+
+-- `field gf256;` `secret a[65535];` `secret b[2];` has one element too many
+many-large : (at : Place)
+    → CompileDecides 1 (record { field = Gf256; decls = variable at class_.Secret (Some 65535) (codes "a") ∷ variable at class_.Secret (Some 2) (codes "b") ∷ []; body = [] })
+    (Some (fault.Source (source.Large limit_.Elements)))
+many-large at = Elements (omega arith) refl

@@ -20,6 +20,7 @@ use Rattle.mk_top.specs.declared.fault.CheckFault.{CheckFault}
 use Rattle.mk_top.specs.declared.fault.CheckFault.TheVariants as check
 use Rattle.mk_top.specs.Words.{Command, Compile, Check, Eval, SaysElements, Asks}
 use Rattle.mk_parse.proofs.Refusals.{one_place, one_program}
+use Rattle.mk_unroll.specs.Causes.{Cause}
 use Rattle.mk_ast.specs.declared.tree.Program.{Program as Tree}
 use Rattle.mk_ast.specs.Spells.{Spells, IsRefusedAt}
 use Rattle.mk_types.specs.declared.offence.Offence.{Offence}
@@ -28,9 +29,11 @@ use Rattle.mk_types.specs.declared.offence.OffenceKind.TheVariants as kind_
 use Rattle.mk_types.specs.First.{IsFirst}
 use Rattle.mk_types.specs.Offences.{offences, IsWellTyped}
 use Rattle.mk_types.proofs.Least.{first_one, none_first}
-use Rattle.mk_top.specs.declared.first.Program.{Program}
-use Rattle.mk_top.specs.First.{HasFirstForm}
+use Rattle.mk_ast.specs.declared.refusal.SourceRefusal.{SourceRefusal}
+use Rattle.mk_ast.specs.declared.refusal.SourceRefusal.TheVariants as refusal_
 use Rattle.mk_top.specs.Sources.{IsNoSource}
+use Rattle.mk_top.specs.Faults.{fault_of_source}
+use Rattle.mk_top.proofs.Causes.{cause-once, cause-outside}
 use Rattle.mk_top.specs.Answers.{refusal_of, PairDecides, BundleDecides, SourceDecides, CompileDecides, EvalDecides, TextDecides, Decides, limit_of}
 
 -- `-` is no text of hexadecimal digits
@@ -143,15 +146,26 @@ module _ (decides : Tree → Option Fault → Type 0) (bytes : List ℕ) where
   source-one one a b (typed tree is well d) (typed again are good c) =
       one again a b (subst (λ (t : Tree). decides t a) (one_program tree again bytes is are) d) c
 
+-- the fault of a refused program, and that it has a cause
+record Caused (order : ℕ) (tree : Tree) (fault : Fault) : Type 0 where
+  pub refusal : SourceRefusal
+  pub cause : Cause tree order refusal
+  pub told : fault ≡ fault_of_source refusal
+
+caused : (order : ℕ) (tree : Tree) (f : Fault) → CompileDecides order tree (Some f) → Caused order tree f
+caused order tree (fault.Source (source.Index at)) d = record { refusal = refusal_.Index at; cause = d; told = refl }
+caused order tree (fault.Source (source.Large limit)) d = record { refusal = refusal_.Large limit; cause = d; told = refl }
+caused order tree f d = absurd d
+
 -- a well typed tree decides one answer under `compile`
-compile-one : (tree : Tree) (a b : Option Fault) → CompileDecides tree a → CompileDecides tree b → a ≡ b
-compile-one tree None None first second = refl
-compile-one tree None (Some (fault.Source source.NotYet)) first second = absurd (second first.0 first.1)
-compile-one tree None (Some f) first second = absurd second
-compile-one tree (Some (fault.Source source.NotYet)) None first second = absurd (first second.0 second.1)
-compile-one tree (Some (fault.Source source.NotYet)) (Some (fault.Source source.NotYet)) first second = refl
-compile-one tree (Some (fault.Source source.NotYet)) (Some f) first second = absurd second
-compile-one tree (Some f) b first second = absurd first
+compile-one : (order : ℕ) (tree : Tree) (a b : Option Fault) → CompileDecides order tree a → CompileDecides order tree b → a ≡ b
+compile-one order tree None None first second = refl
+compile-one order tree None (Some f) first second = absurd (cause-outside tree order _ (caused order tree f second).cause first)
+compile-one order tree (Some f) None first second = absurd (cause-outside tree order _ (caused order tree f first).cause second)
+compile-one order tree (Some f) (Some g) first second =
+    let one = caused order tree f first in
+    let two = caused order tree g second in
+    ap Some (one.told ∙ ap fault_of_source (cause-once tree order one.refusal two.refusal one.cause two.cause) ∙ sym two.told)
 
 -- and under `eval`
 eval-one : (publics secrets : List ℕ) (tree : Tree) (a b : Option Fault) → EvalDecides publics secrets tree a → EvalDecides publics secrets tree b → a ≡ b
@@ -212,7 +226,7 @@ module _ (differ : TextsDiffer) where
   -- the text that a command reads decides one answer
   text-one : (command : Command) (bytes : List ℕ) (a b : Option Fault) → TextDecides command bytes a → TextDecides command bytes b → a ≡ b
   text-one (Compile order) bytes a b first second =
-      source-one CompileDecides bytes compile-one a b (sourced CompileDecides bytes a first) (sourced CompileDecides bytes b second)
+      source-one (CompileDecides order) bytes (compile-one order) a b (sourced (CompileDecides order) bytes a first) (sourced (CompileDecides order) bytes b second)
   text-one Check bytes a b first second = bundle-one bytes a b (bundled bytes a first) (bundled bytes b second)
   text-one (Eval ps ss) bytes a b first second =
       source-one (EvalDecides ps ss) bytes (eval-one ps ss) a b (sourced (EvalDecides ps ss) bytes a first) (sourced (EvalDecides ps ss) bytes b second)

@@ -16,7 +16,7 @@ use Rattle.mk_top.proofs.Deciding.{asks-one, decides-one}
 -- what a command makes of its input decides that there is no fault
 makes-decides : (command : Command) (bytes written : List ℕ) → Makes command (Some bytes) written → length bytes ≤ limit_of command → Decides command bytes None
 makes-decides (Compile order) bytes written makes within =
-    (within, (makes.tree, makes.source.spelled.spelled, makes.source.typed, (makes.program, makes.form)))
+    (within, (makes.tree, makes.source.spelled.spelled, makes.source.typed, makes.within))
 makes-decides Check bytes written makes within =
     (within, (makes.0.code, makes.0.cert, makes.0.pair, makes.0.bundle, makes.0.accepted))
 makes-decides (Eval ps ss) bytes written makes within =

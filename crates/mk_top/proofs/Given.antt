@@ -1,22 +1,20 @@
 -- What was made of a text, said of the bytes that the input gave.
-use Rattle.std.proofs.Common.{◌≡◌, ℕ, ◌+◌, ◌≤◌, List, Option, Some, None, Result, Ok, Err, IfOk, IfErr, IfSome, OnOk, length, subst, sym, ap, ◌∙◌, ◌⊎◌, inl, inr}
+use Rattle.std.proofs.Common.{◌≡◌, ℕ, ◌≤◌, List, Option, Some, None, Result, Ok, Err, IfOk, IfErr, IfSome, OnOk, length, subst, sym, ap, ◌∙◌, ◌⊎◌, inl, inr}
 use Rattle.std.specs.Prelude.{option_map}
 use Rattle.mk_base.specs.Streams.{ReadsAll}
 use Rattle.mk_top.specs.declared.fault.Fault.{Fault}
 use Rattle.mk_top.specs.declared.fault.Fault.TheVariants as fault_
-use Rattle.mk_top.specs.declared.fault.SourceFault.TheVariants as source
 use Rattle.mk_top.specs.Words.{Command, Compile, Check, Eval}
 use Rattle.mk_code.specs.Listing.{Listing}
 use Rattle.mk_code.specs.Private.{Private}
-use Rattle.mk_gadget.specs.Product.{product_gadget}
-use Rattle.mk_gadget.specs.Refresh.{refresh_gadget}
 use Rattle.mk_rules.specs.Claimed.{Claimed}
 use Rattle.mk_bundle.specs.Text.{text}
 use Rattle.mk_bundle.specs.Pairs.{IsPair}
-use Rattle.mk_top.specs.declared.first.Program.{Program}
-use Rattle.mk_top.specs.First.{HasFirstForm}
-use Rattle.mk_top.specs.Compiled.{IsCompiled}
-use Rattle.mk_top.specs.Correct.{Correct}
+use Rattle.mk_rules.specs.Accepts.{IsAccepted}
+use Rattle.mk_unroll.specs.Causes.{Cause}
+use Rattle.mk_place.specs.Different.{AllDifferButRefreshes}
+use Rattle.mk_compile.specs.Compiled.{IsWithin, IsCertified}
+use Rattle.mk_compile.specs.Correct.{Correct}
 use Rattle.mk_top.specs.Answers.{ReadWhole, Compiles, Checks, Evaluates, limit_of, TextDecides, IsAnswerOf}
 use Rattle.mk_top.specs.Sources.{IsSourceOf}
 use Rattle.mk_eval.specs.declared.refusal.EvalRefusal.{EvalRefusal}
@@ -25,42 +23,41 @@ use Rattle.mk_eval.specs.Refusals.{refusal}
 use Rattle.mk_ast.specs.declared.tree.Program.{Program as Tree}
 use Rattle.mk_ast.specs.declared.refusal.SourceRefusal.{SourceRefusal}
 use Rattle.mk_ast.specs.declared.refusal.SourceRefusal.TheVariants as refused
-use Rattle.mk_top.specs.Reading.{IsFormRefusal}
 use Rattle.mk_top.specs.Faults.{fault_of_source, fault_of_eval, status_of}
 use Rattle.mk_top.specs.Running.{NotMade, NoText}
+use Rattle.mk_top.proofs.Causes.{IsLimitOrIndex, cause-kind}
+use Rattle.mk_top.proofs.Texts.{short-text}
 
 -- the source that was read is the one that was given
 compiles-given : (given after : Option (List ℕ)) (bytes written : List ℕ) (order : ℕ)
     → IfSome given (λ rest. ReadsAll rest bytes after) → Compiles order (Some bytes) written → Compiles order given written
 compiles-given None after bytes written order read c = record {
   tree = c.tree;
-  program = c.program;
   code = c.code;
   cert = c.cert;
   source = tt;
-  form = c.form;
-  alone = c.alone;
-  compiled = c.compiled;
-  correct = c.correct;
-  private = c.private;
+  within = c.within;
   pair = c.pair;
   bytes = c.bytes;
+  correct = c.correct;
+  private = c.private;
+  certified = c.certified;
+  different = c.different;
   accepted = c.accepted;
   checks = c.checks;
 }
 compiles-given (Some rest) after bytes written order read c = record {
   tree = c.tree;
-  program = c.program;
   code = c.code;
   cert = c.cert;
   source = subst (λ (bs : List ℕ). IsSourceOf bs c.tree) read.whole c.source;
-  form = c.form;
-  alone = c.alone;
-  compiled = c.compiled;
-  correct = c.correct;
-  private = c.private;
+  within = c.within;
   pair = c.pair;
   bytes = c.bytes;
+  correct = c.correct;
+  private = c.private;
+  certified = c.certified;
+  different = c.different;
   accepted = c.accepted;
   checks = c.checks;
 }
@@ -179,11 +176,16 @@ pub no_text-given : {X : Type 0} (command : Command) (given after : Option (List
 no_text-given command given after reads then_reads bytes (Ok x) within read why = tt
 no_text-given command given after reads then_reads bytes (Err fault) within read why = not_made-given command given after reads then_reads bytes fault within read why
 
--- why the form of the tree of a text is refused is why nothing is compiled of the text
-pub form_not_made : (order : ℕ) (bytes : List ℕ) (tree : Tree) (e : SourceRefusal) → IsSourceOf bytes tree → IsFormRefusal tree e → NotMade (Compile order) bytes (fault_of_source e)
-form_not_made order bytes tree (refused.NotYet at) is why = (tree, is.spelled.spelled, is.typed, why.1)
-form_not_made order bytes tree refused.Memory is why = tt
-form_not_made order bytes tree e is why = absurd why
+-- why the tree of a text is not compiled is why nothing is made of the text
+pub compile_not_made : (order : ℕ) (bytes : List ℕ) (tree : Tree) (e : SourceRefusal) → IsSourceOf bytes tree → (e ≡ refused.Memory) ⊎ Cause tree order e
+    → NotMade (Compile order) bytes (fault_of_source e)
+compile_not_made order bytes tree e is (inl wanted) = subst (λ (x : SourceRefusal). NotMade (Compile order) bytes (fault_of_source x)) (sym wanted) tt
+compile_not_made order bytes tree e is (inr cause) = by e cause (cause-kind tree order e cause)
+  where
+    by : (x : SourceRefusal) → Cause tree order x → IsLimitOrIndex x → NotMade (Compile order) bytes (fault_of_source x)
+    by (refused.Index at) c kind = (tree, is.spelled.spelled, is.typed, c)
+    by (refused.Large limit) c kind = (tree, is.spelled.spelled, is.typed, c)
+    by x c kind = absurd kind
 
 -- why the evaluation of the tree of a text is refused is why nothing is made of the text
 pub eval_not_made : (ps ss bytes : List ℕ) (tree : Tree) (e : EvalRefusal) → IsSourceOf bytes tree → (e ≡ eval.Memory) ⊎ (refusal tree ps ss ≡ Some e)
@@ -198,27 +200,22 @@ eval_not_made ps ss bytes tree e is (inr why) = by e why
     by (eval.Element which index) h = (tree, is.spelled.spelled, is.typed, sym (ap (option_map fault_of_eval) h))
     by eval.Memory h = tt
 
--- a source of the first form was compiled where its code is what it promises
-pub compiles-made : (order : ℕ) (bytes written : List ℕ) (tree : Tree) (p : Program) (code : Listing) (cert : Claimed)
-    → IsSourceOf bytes tree → HasFirstForm tree p → ((q : Program) → HasFirstForm tree q → q ≡ p)
-    → IsCompiled p order code cert → Correct p order code → Private code → IsPair code cert
-    → length (text code cert) ≤ 268435456 → written ≡ text code cert → Compiles order (Some bytes) written
-compiles-made order bytes written tree p code cert source form alone compiled correct private pair short same = record {
+-- a source was compiled where its code and certificate are what they promise
+pub compiles-made : (order : ℕ) (bytes written : List ℕ) (tree : Tree) (code : Listing) (cert : Claimed)
+    → IsSourceOf bytes tree → IsWithin tree order → Correct tree order code → Private code → IsCertified tree cert → AllDifferButRefreshes cert.blocks → IsAccepted code cert
+    → IsPair code cert → written ≡ text code cert → Compiles order (Some bytes) written
+compiles-made order bytes written tree code cert source within correct private certified different accepted pair same = record {
   tree = tree;
-  program = p;
   code = code;
   cert = cert;
   source = source;
-  form = form;
-  alone = alone;
-  compiled = compiled;
-  correct = correct;
-  private = private;
+  within = within;
   pair = pair;
   bytes = same;
-  accepted = compiled.accepted (product_gadget (code.order + 1)) (refresh_gadget (code.order + 1));
-  checks = (
-    subst (λ (bs : List ℕ). length bs ≤ 268435456) (sym same) short,
-    (code, cert, pair, same, compiled.accepted (product_gadget (code.order + 1)) (refresh_gadget (code.order + 1))),
-  );
+  correct = correct;
+  private = private;
+  certified = certified;
+  different = different;
+  accepted = accepted;
+  checks = (subst (λ (bs : List ℕ). length bs ≤ 268435456) (sym same) (short-text code cert pair), (code, cert, pair, same, accepted));
 }

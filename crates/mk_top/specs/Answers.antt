@@ -12,12 +12,16 @@ use Rattle.mk_check.specs.Verdict.{Refuses}
 use Rattle.mk_bundle.specs.Text.{text}
 use Rattle.mk_bundle.specs.Pairs.{IsPair, IsBundleText, NamesFirst}
 use Rattle.mk_ast.specs.declared.tree.Program.{Program as Tree}
+use Rattle.mk_ast.specs.declared.refusal.SourceRefusal.TheVariants as refusal_
 use Rattle.mk_ast.specs.Spells.{Spells, IsRefusedAt}
 use Rattle.mk_types.specs.declared.offence.OffenceKind.TheVariants as kind_
 use Rattle.mk_types.specs.Offences.{IsWellTyped}
-use Rattle.mk_top.specs.declared.first.Program.{Program}
 use Rattle.mk_types.specs.Meaning.{result}
+use Rattle.mk_unroll.specs.Causes.{Cause}
 use Rattle.mk_eval.specs.Refusals.{refusal}
+use Rattle.mk_place.specs.Different.{AllDifferButRefreshes}
+use Rattle.mk_compile.specs.Compiled.{IsWithin, IsCertified}
+use Rattle.mk_compile.specs.Correct.{Correct}
 use Rattle.mk_top.specs.Words.{Command, Compile, Check, Eval, elements_word}
 use Rattle.mk_top.specs.declared.status.Status.{Status}
 use Rattle.mk_top.specs.declared.status.Status.TheVariants as status
@@ -26,10 +30,7 @@ use Rattle.mk_top.specs.declared.fault.Fault.TheVariants as fault
 use Rattle.mk_top.specs.declared.fault.SourceFault.TheVariants as source
 use Rattle.mk_top.specs.declared.fault.CheckFault.{CheckFault}
 use Rattle.mk_top.specs.declared.fault.CheckFault.TheVariants as check
-use Rattle.mk_top.specs.First.{HasFirstForm}
 use Rattle.mk_top.specs.Sources.{HasFirstOffence, IsSourceOf, IsNoSource}
-use Rattle.mk_top.specs.Correct.{Correct}
-use Rattle.mk_top.specs.Compiled.{IsCompiled}
 use Rattle.mk_top.specs.Faults.{fault_of_eval, status_of, fault_line}
 
 -- the most bytes that a command reads: of a source, and of a bundle
@@ -75,11 +76,13 @@ SourceDecides decides bytes (Some (fault.Source (source.AssignInput at))) = HasF
 SourceDecides decides bytes (Some (fault.Source (source.MapForm at))) = HasFirstOffence bytes kind_.MapForm at
 SourceDecides decides bytes answer = (tree : Tree) × Spells tree bytes × IsWellTyped tree × decides tree answer
 
--- the answer that a well typed tree decides under `compile`: whether it has the first form
-abbrev pub CompileDecides : Tree → Option Fault → Type 0
-CompileDecides tree None = (p : Program) × HasFirstForm tree p
-CompileDecides tree (Some (fault.Source source.NotYet)) = (p : Program) → HasFirstForm tree p → ⊥
-CompileDecides tree (Some _) = ⊥
+-- The answer that a well typed tree decides under `compile` at an order: it stays within the limits; or its
+-- execution stops at an index that goes wrong, or it exceeds this limit, and no cause before holds.
+abbrev pub CompileDecides : ℕ → Tree → Option Fault → Type 0
+CompileDecides order tree None = IsWithin tree order
+CompileDecides order tree (Some (fault.Source (source.Index at))) = Cause tree order (refusal_.Index at)
+CompileDecides order tree (Some (fault.Source (source.Large limit))) = Cause tree order (refusal_.Large limit)
+CompileDecides order tree (Some _) = ⊥
 
 -- the answer that it decides under `eval`: the first refusal of the evaluation on these inputs, if there is
 -- one
@@ -88,7 +91,7 @@ EvalDecides publics secrets tree answer = answer ≡ option_map fault_of_eval (r
 
 -- the answer that the bytes within the limit decide
 abbrev pub TextDecides : Command → List ℕ → Option Fault → Type 0
-TextDecides (Compile order) bytes answer = SourceDecides CompileDecides bytes answer
+TextDecides (Compile order) bytes answer = SourceDecides (CompileDecides order) bytes answer
 TextDecides Check bytes answer = BundleDecides bytes answer
 TextDecides (Eval publics secrets) bytes answer = SourceDecides (EvalDecides publics secrets) bytes answer
 
@@ -98,22 +101,22 @@ Decides command bytes (Some (fault.TooLong limit)) = (limit ≡ limit_of command
 Decides command bytes answer = (length bytes ≤ limit_of command) × TextDecides command bytes answer
 
 -- A source, given where the input tells its bytes, was compiled at this order to this text: the bytes
--- spell one tree, which is well typed and has the first form as this program, and the text is that of a
--- code and a certificate which are the program's. The code is correct for the program and private, the rule accepts
--- it with the certificate, and the bytes of the text decide that `check` has no fault.
+-- spell one tree, which is well typed and within the limits, and the text is that of one code and certificate.
+-- From every sharing of the secrets and every random tape the code gives a sharing of the tree's result. The code
+-- is private. The certificate is the tree's, and apart from refreshes its blocks differ. The rule accepts the
+-- code with it, and the bytes of the text, which are within the limit of a bundle, decide that `check` has no fault.
 pub record Compiles (order : ℕ) (given : Option (List ℕ)) (written : List ℕ) : Type 0 where
   pub tree : Tree
-  pub program : Program
   pub code : Listing
   pub cert : Claimed
   pub source : IfSome given (λ bytes. IsSourceOf bytes tree)
-  pub form : HasFirstForm tree program
-  pub alone : (q : Program) → HasFirstForm tree q → q ≡ program
-  pub compiled : IsCompiled program order code cert
-  pub correct : Correct program order code
-  pub private : Private code
+  pub within : IsWithin tree order
   pub pair : IsPair code cert
   pub bytes : written ≡ text code cert
+  pub correct : Correct tree order code
+  pub private : Private code
+  pub certified : IsCertified tree cert
+  pub different : AllDifferButRefreshes cert.blocks
   pub accepted : IsAccepted code cert
   pub checks : Decides Check written None
 

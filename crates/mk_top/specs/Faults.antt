@@ -46,7 +46,6 @@ fault_of_bundle bundle.Memory = fault.Memory
 
 -- the fault of a refused source
 abbrev pub fault_of_source : SourceRefusal → Fault
-fault_of_source (refusal.NotYet at) = fault.Source source.NotYet
 fault_of_source (refusal.Syntax at) = fault.Source (source.Syntax at)
 fault_of_source (refusal.Unknown at) = fault.Source (source.Unknown at)
 fault_of_source (refusal.Twice at) = fault.Source (source.Twice at)
@@ -102,7 +101,6 @@ large_line limit_.Size = codes "38 large size\n"
 
 -- the line of a source that is refused
 abbrev pub source_line : SourceFault → List ℕ
-source_line source.NotYet = codes "30 not yet 1:1\n"
 source_line (source.Syntax at) = placed_line (codes "31 syntax ") at
 source_line (source.Unknown at) = placed_line (codes "32 unknown ") at
 source_line (source.Twice at) = placed_line (codes "33 twice ") at

@@ -1,9 +1,4 @@
-pub mod First
 pub mod Sources
-pub mod Reading
-pub mod Chain
-pub mod Correct
-pub mod Compiled
 pub mod Words
 pub mod Forms
 pub mod Faults

@@ -15,8 +15,6 @@ use mk_ssa::Operand;
 /// Why a source is refused, with the place where.
 #[derive(Clone, Copy, Debug, PartialEq, Eq)]
 pub enum SourceFault {
-    /// The program is not of a form that is compiled yet.
-    NotYet,
     /// No program goes on with what stands there.
     Syntax { at: Place },
     /// The name there is not declared.
@@ -116,7 +114,6 @@ impl From<SourceRefusal> for Fault {
 
     fn from(refusal: SourceRefusal) -> Fault {
         match refusal {
-            SourceRefusal::NotYet(_) => Fault::Source(SourceFault::NotYet),
             SourceRefusal::Syntax(at) => Fault::Source(SourceFault::Syntax { at }),
             SourceRefusal::Unknown(at) => Fault::Source(SourceFault::Unknown { at }),
             SourceRefusal::Twice(at) => Fault::Source(SourceFault::Twice { at }),
@@ -176,7 +173,6 @@ impl SourceFault {
         ensures { result.bytes ≡ source_line self }
     {
         match self {
-            SourceFault::NotYet => fixed("30 not yet 1:1\n"),
             SourceFault::Syntax { at } => placed("31 syntax ", at),
             SourceFault::Unknown { at } => placed("32 unknown ", at),
             SourceFault::Twice { at } => placed("33 twice ", at),

@@ -4,17 +4,14 @@
 
 mod bundle;
 mod command;
-mod compile;
 mod elements;
 mod fault;
-mod first;
 mod reading;
 mod source;
 mod status;
 mod top;
 
 pub use fault::{CheckFault, Fault, InputFault, SourceFault};
-pub use first::Program;
 pub use status::{Status, code_of};
 pub use top::mask_main;
 

@@ -1,27 +1,28 @@
 //! Sources: read, typed, and then compiled or evaluated.
 
 ghost use Rattle.std.specs.Prelude.{◌≡◌, ◌≤◌, ◌<◌, ◌^◌, Some, IfOk, IfErr, length};
+ghost use Rattle.mk_types.specs.Elements.{maps_of};
 ghost use Rattle.mk_top.specs.Words.{Compile, Eval};
 ghost use Rattle.mk_top.specs.Answers.{Compiles, Evaluates, ReadWhole, limit_of};
 ghost use Rattle.mk_top.specs.Sources.{IsSourceOf};
 ghost use Rattle.mk_top.specs.Running.{NotMade, NotTyped, NoText};
 
-use crate::compile::compile;
 use crate::elements::elements_line;
 use crate::fault::Fault;
-use crate::first::first_form;
 use crate::reading::whole_text;
 use mk_base::{Bytes, Source};
 use mk_bundle::to_text;
+use mk_compile::compile;
 use mk_eval::eval;
 use mk_parse::parse;
 use mk_types::{Typed, check_types};
 use std::alloc::Global;
 
-/// The well typed program that a source spells.
+/// The well typed program that a source spells. It has at most 32,768 maps.
 pub(crate) fn typed_source(alloc: Global, source: &[u8]) -> Result<Typed, Fault>
     requires { length source.now ≤ 1048576 }
     ensures typed { IfOk result (IsSourceOf source.now) }
+    ensures maps { IfOk result (λ tree. length (maps_of tree.decls) ≤ 32768) }
     ensures fault { IfErr result (NotTyped source.now) }
 {
     let tree = parse(alloc, source)?;
@@ -36,8 +37,7 @@ fn text_of_source(alloc: Global, source: &[u8], order: u8) -> Result<Bytes, Faul
     ensures fault { IfErr result (NotMade (Compile order) source.now) }
 {
     let typed = typed_source(alloc, source)?;
-    let program = first_form(alloc, typed.program())?;
-    let bundle = compile(alloc, &program, order)?;
+    let bundle = compile(alloc, &typed, order)?;
     Ok(to_text(alloc, &bundle.code, &bundle.cert)?)
 }
 

@@ -3,16 +3,12 @@
 ghost use Rattle.std.specs.Prelude.{None};
 
 mod bundles;
+mod compilations;
 mod evaluations;
 mod sources;
 
 use super::*;
-use crate::compile::compile;
-use crate::first::first_form;
-use crate::source::typed_source;
 use mk_base::{Bytes, Failed, Items, MemSink, MemSource, Memory, Source, Words};
-use mk_bundle::{MOST_BYTES, read_bundle, to_text};
-use mk_rules::Bundle;
 use std::alloc::Global;
 use std::marker::Model;
 use std::test::*;
@@ -22,12 +18,6 @@ const SUM: &str = "field gf256;\nsecret a;\nsecret b;\noutput y;\ny = a + b;\n";
 
 const SUM_BUNDLE: &str =
     "mask 1\nfield gf256\norder 1\nsecrets 2\npublics 0\nblock add s0 s1\nclaim b0\ncode\nadd 0 2\nadd 1 3\nout 4 5\nend\n";
-
-/// A sum that names a secret twice, and its bundle text at order 2.
-const TWICE: &str = "field gf256;\nsecret a;\nsecret b;\noutput y;\ny = a + a + b;\n";
-
-const TWICE_BUNDLE: &str =
-    "mask 1\nfield gf256\norder 2\nsecrets 2\npublics 0\nblock add s0 s0\nblock add b0 s1\nclaim b1\ncode\nadd 0 0\nadd 1 1\nadd 2 2\nadd 6 3\nadd 7 4\nadd 8 5\nout 9 10 11\nend\n";
 
 /// How a row's input and outputs behave: how many bytes one read gives and one write takes, and which
 /// calls of each fail.
@@ -85,24 +75,6 @@ fn answers(
             && out.taken() == answer.out.as_bytes()
             && err.taken() == answer.err.as_bytes(),
     )
-}
-
-#[test]
-fn sums_are_compiled(rt: HostRuntime) -> Result<(), Memory> {
-    let alloc = rt.alloc();
-    let sum = Answer {
-        status: Status::Done,
-        out: SUM_BUNDLE,
-        err: "",
-    };
-    let twice = Answer {
-        status: Status::Done,
-        out: TWICE_BUNDLE,
-        err: "",
-    };
-    assert!(rt; answers(alloc, &["compile", "1"], SUM.as_bytes(), &CALM, &sum)?);
-    assert!(rt; answers(alloc, &["compile", "2"], TWICE.as_bytes(), &CALM, &twice)?);
-    Ok(())
 }
 
 #[test]
@@ -257,96 +229,5 @@ fn bundles_that_are_too_long_are_refused(rt: HostRuntime) -> Result<(), Memory> 
     assert!(rt; status == Status::TooLong);
     assert!(rt; out.taken().is_empty());
     assert!(rt; err.taken() == "10 too long 268435456\n".as_bytes());
-    Ok(())
-}
-
-/// A sum of 64 parts over 64 secrets.
-fn longest_sum(alloc: Global) -> Result<String, Memory> {
-    let letters = "abcdefgh";
-    let mut source = String::new(alloc);
-    source.push_str("field gf256;\n")?;
-    for first in letters.chars() {
-        for second in letters.chars() {
-            source.push_str("secret ")?;
-            source.push(first)?;
-            source.push(second)?;
-            source.push_str(";\n")?;
-        }
-    }
-    source.push_str("output y;\ny = aa")?;
-    for first in letters.chars() {
-        for second in letters.chars() {
-            if first != 'a' || second != 'a' {
-                source.push_str(" + ")?;
-                source.push(first)?;
-                source.push(second)?;
-            }
-        }
-    }
-    source.push_str(";\n")?;
-    Ok(source)
-}
-
-/// Whether two pairs are the same.
-fn is_same_pair(left: &Bundle, right: &Bundle) -> bool {
-    left.code.field() == right.code.field()
-        && left.code.order() == right.code.order()
-        && left.code.secrets() == right.code.secrets()
-        && left.code.publics() == right.code.publics()
-        && left.code.maps().is_empty()
-        && right.code.maps().is_empty()
-        && left.code.instrs().as_slice() == right.code.instrs().as_slice()
-        && left.code.outs().as_slice() == right.code.outs().as_slice()
-        && left.cert.blocks().as_slice() == right.cert.blocks().as_slice()
-        && left.cert.claims().as_slice() == right.cert.claims().as_slice()
-}
-
-/// Whether the text of a source's code at an order is read back as the same pair, and accepted.
-fn goes_round(alloc: Global, source: &str, order: u8) -> Result<bool, Fail> {
-    if order == 0 || order > 8 || source.len() > 1_048_576 {
-        return Ok(false);
-    }
-    let typed = typed_source(alloc, source.as_bytes())
-        .ok()
-        .ok_or("it is well typed")?;
-    let program = first_form(alloc, typed.program())
-        .ok()
-        .ok_or("it is of the first form")?;
-    let bundle = compile(alloc, &program, order)
-        .ok()
-        .ok_or("there is memory")?;
-    let text = to_text(alloc, &bundle.code, &bundle.cert)
-        .ok()
-        .ok_or("there is memory")?;
-    if text.as_slice().len() > MOST_BYTES {
-        return Ok(false);
-    }
-    let again = read_bundle(alloc, text.as_slice())
-        .ok()
-        .ok_or("it is a bundle")?;
-    let accepted = Answer {
-        status: Status::Done,
-        out: "accepted\n",
-        err: "",
-    };
-    let wide = Outside {
-        piece: 4096,
-        ..CALM
-    };
-    let is_accepted = answers(alloc, &["check"], text.as_slice(), &wide, &accepted)
-        .ok()
-        .ok_or("there is memory")?;
-    Ok(is_accepted && is_same_pair(&bundle, &again))
-}
-
-#[test]
-fn what_is_compiled_is_read_back_and_accepted(rt: HostRuntime) -> Result<(), Fail> {
-    let alloc = rt.alloc();
-    let long = longest_sum(alloc).ok().ok_or("there is memory")?;
-    for source in [SUM, TWICE, long.as_str()] {
-        for order in [1, 3, 8] {
-            assert!(rt; goes_round(alloc, source, order)?);
-        }
-    }
     Ok(())
 }

@@ -163,7 +163,8 @@ pub fn mask_main<S: Source, O: Sink, E: Sink>(
     ensures words { (result ≡ Status.Words) ⊎ IsForm words.now }
     ensures words_only { result ≡ Status.Words → IsNoForm words.now × (src.new ≡ src.old) }
 
-    // What `compile` wrote is the text of the program's code and certificate, which is correct and private.
+    // What `compile` wrote is the text of a code and certificate: the code gives sharings of the program's result,
+    // is private, and is accepted with the certificate.
     ensures compiled { (order : ℕ) → Asks words.now (Compile order) → result ≡ Status.Done
         → (written : List ℕ) × Compiles order (S.left src.old) written × TakesWhole (O.taken out.old) written (O.taken out.new) }
 

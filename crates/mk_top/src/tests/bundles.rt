@@ -1,17 +1,21 @@
 //! Rows of `check`: which bundles are accepted, and the first fault of others.
 
-use super::{Answer, CALM, SUM_BUNDLE, TWICE_BUNDLE, answers};
+use super::{Answer, CALM, SUM_BUNDLE, answers};
 use crate::Status;
 use mk_base::Memory;
 use std::alloc::Global;
 use std::test::*;
 
+/// A sum that names a secret twice, at order 2.
+pub(super) const TWICE: &str =
+    "mask 1\nfield gf256\norder 2\nsecrets 2\npublics 0\nblock add s0 s0\nblock add b0 s1\nclaim b1\ncode\nadd 0 0\nadd 1 1\nadd 2 2\nadd 6 3\nadd 7 4\nadd 8 5\nout 9 10 11\nend\n";
+
 /// The product of two bits.
-const PRODUCT: &str =
+pub(super) const PRODUCT: &str =
     "mask 1\nfield gf2\norder 1\nsecrets 2\npublics 0\nblock mul s0 s1\nclaim b0\ncode\nrnd\nmul 0 3\nadd 4 5\nmul 1 2\nadd 6 7\nmul 0 2\nadd 9 4\nmul 1 3\nadd 11 8\nout 10 12\nend\n";
 
 /// The square of a bit as a product with itself, one of the two refreshed.
-const REFRESHED: &str =
+pub(super) const REFRESHED: &str =
     "mask 1\nfield gf2\norder 1\nsecrets 1\npublics 0\nblock refresh s0\nblock mul b0 s0\nclaim b1\ncode\nrnd\nadd 0 2\nadd 1 2\nrnd\nmul 3 1\nadd 5 6\nmul 4 0\nadd 7 8\nmul 3 0\nadd 10 5\nmul 4 1\nadd 12 9\nout 11 13\nend\n";
 
 /// The same without the refresh.
@@ -45,15 +49,7 @@ fn bundles_that_meet_the_rule_are_accepted(rt: HostRuntime) -> Result<(), Memory
         err: "",
     };
     let rows = [
-        SUM_BUNDLE,
-        TWICE_BUNDLE,
-        PRODUCT,
-        REFRESHED,
-        UNNEEDED,
-        TWICE_LEFT,
-        OTHER,
-        LINEAR,
-        EMPTY,
+        SUM_BUNDLE, TWICE, PRODUCT, REFRESHED, UNNEEDED, TWICE_LEFT, OTHER, LINEAR, EMPTY,
     ];
     for text in rows {
         assert!(rt; answers(rt.alloc(), &["check"], text.as_bytes(), &CALM, &accepted)?);

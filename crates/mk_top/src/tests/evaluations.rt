@@ -63,10 +63,10 @@ fn refuses_each(alloc: Global, rows: &[Refused]) -> Result<bool, Memory> {
 }
 
 /// The product of two secrets.
-const PRODUCT: &str = "field gf256;\nsecret a;\nsecret b;\noutput y;\ny = a * b;\n";
+pub(super) const PRODUCT: &str = "field gf256;\nsecret a;\nsecret b;\noutput y;\ny = a * b;\n";
 
 /// The same of bits.
-const BITS: &str = "field gf2;\nsecret a;\nsecret b;\noutput y;\ny = a * b;\n";
+pub(super) const BITS: &str = "field gf2;\nsecret a;\nsecret b;\noutput y;\ny = a * b;\n";
 
 #[test]
 fn products_are_those_of_the_field(rt: HostRuntime) -> Result<(), Memory> {
@@ -119,11 +119,11 @@ fn loops_and_arrays_are_carried_out(rt: HostRuntime) -> Result<(), Memory> {
 }
 
 /// The S-box of AES, which is the power 254 and then an affine transformation.
-const SBOX: &str =
+pub(super) const SBOX: &str =
     "field gf256;\nmap m = 0x1f, 0x3e, 0x7c, 0xf8, 0xf1, 0xe3, 0xc7, 0x8f;\nsecret x;\nlocal secret x2;\nlocal secret x3;\nlocal secret x12;\noutput y;\nx2 = sq(x);\nx3 = x2 * x;\nx12 = sq(sq(x3));\ny = m(sq(sq(sq(sq(x12 * x3)))) * x12 * x2) + 0x63;\n";
 
 /// MixColumns of AES on a column.
-const MIX_COLUMNS: &str =
+pub(super) const MIX_COLUMNS: &str =
     "field gf256;\nsecret a[4];\noutput y[4];\nfor i in 0..4 {\ny[i] = 0x02 * (a[i] + a[(i + 1) % 4]) + a[(i + 1) % 4] + a[(i + 2) % 4] + a[(i + 3) % 4];\n}\n";
 
 #[test]

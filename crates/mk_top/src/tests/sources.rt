@@ -1,4 +1,4 @@
-//! Rows of `compile` on sources: which are refused, with what line, and how else a sum is spelled.
+//! Rows of `compile` on sources that are refused, with what line, and how else a sum is spelled.
 
 use super::{Answer, Outside, SUM_BUNDLE, answers};
 use crate::Status;
@@ -12,8 +12,6 @@ const WIDE: Outside<'static> = Outside {
     writes: &[],
     tells: &[],
 };
-
-const OTHER_FORM: &str = "30 not yet 1:1\n";
 
 /// Whether `compile 1` refuses the source with this line.
 fn refuses(alloc: Global, source: &[u8], line: &str) -> Result<bool, Memory> {
@@ -77,49 +75,6 @@ fn a_sum_is_spelled_in_many_ways(rt: HostRuntime) -> Result<(), Memory> {
 }
 
 #[test]
-fn programs_of_another_form_are_not_compiled_yet(rt: HostRuntime) -> Result<(), Memory> {
-    let sources = [
-        // a product, another field, one part
-        "field gf2;\nsecret a;\nsecret b;\noutput y;\ny = a * b;\n",
-        "field gf2; secret a; secret b; output y; y = a + b;",
-        "field gf256; secret a; output y; y = a;",
-        // a part that is no secret
-        "field gf256; secret a; output y; y = a + y;",
-        // no secret, and an array
-        "field gf256; output y; y = y + y;",
-        "field gf256; secret a[1]; output y; y = a[0] + a[0];",
-        "field gf256; secret a; output y[1]; y[0] = a + a;",
-    ];
-    for source in sources {
-        assert!(rt; refuses(rt.alloc(), source.as_bytes(), OTHER_FORM)?);
-    }
-    Ok(())
-}
-
-#[test]
-fn more_programs_are_not_compiled_yet(rt: HostRuntime) -> Result<(), Memory> {
-    let sources = [
-        "field gf256; secret a; public p; output y; y = a + a;",
-        "field gf256; secret a; output y; output z; y = a + a;",
-        "field gf256; output y; secret a; y = a + a;",
-        "field gf256; secret a; output y; y = a + 0x01;",
-        // two statements on one line, a comment at the end, an empty loop, and no statement
-        "field gf2; secret a; output y; y = a; y = a;",
-        "field gf2;\n# the end",
-        "field gf2;\nfor i in 0..3 { }",
-        "field gf256;",
-        // the greatest number, both cases of digits, and 64 bytes
-        "field gf2; secret a[65535];",
-        "field gf256; secret a; output y; y = a + 0xfF;",
-        "field gf2; secret aaaaaaaaaaaaaaaaaaaaaaaaaaaaaaaaaaaaaaaaaaaaaaaaaaaaaaaaaaaaaaaa;",
-    ];
-    for source in sources {
-        assert!(rt; refuses(rt.alloc(), source.as_bytes(), OTHER_FORM)?);
-    }
-    Ok(())
-}
-
-#[test]
 fn a_program_is_refused_at_its_first_offence(rt: HostRuntime) -> Result<(), Memory> {
     let rows = [
         ("field gf2;\noutput y;\ny = z;", "32 unknown 3:5\n"),
@@ -167,6 +122,35 @@ fn sums_of_other_names_are_refused_at_their_first_offence(rt: HostRuntime) -> Re
         (
             "field gf256;\nsecret a;\noutput y;\ny[0] = a + a;",
             "34 kind 4:1\n",
+        ),
+    ];
+    assert!(rt; refuses_each(rt.alloc(), &rows)?);
+    Ok(())
+}
+
+#[test]
+fn a_program_is_refused_past_its_limits(rt: HostRuntime) -> Result<(), Memory> {
+    let rows = [
+        (
+            "field gf256;\nsecret a[4];\noutput y;\nfor i in 0..4 {\ny = y + a[i + 1];\n}\n",
+            "37 index 5:9\n",
+        ),
+        (
+            "field gf2;\nsecret a[65535];\nsecret b[2];\n",
+            "38 large elements\n",
+        ),
+        (
+            "field gf2;\nfor i in 0..65535 {\nfor j in 0..65535 {\n}\n}\n",
+            "38 large work\n",
+        ),
+        // the elements come first, and an offence before them
+        (
+            "field gf2;\nsecret a[65535];\nsecret b[2];\noutput y;\ny = b[2];\n",
+            "38 large elements\n",
+        ),
+        (
+            "field gf2;\nsecret a[65535];\nsecret b[2];\nb[2] = z;\n",
+            "35 input 4:1\n",
         ),
     ];
     assert!(rt; refuses_each(rt.alloc(), &rows)?);
@@ -246,7 +230,12 @@ fn at_most_64_brackets_are_open(rt: HostRuntime) -> Result<(), Memory> {
     let alloc = rt.alloc();
     let sum = "field gf2;\nsecret a;\noutput y;\ny = ";
     let most = nested(alloc, sum, "(", "a", ")", 64)?;
-    assert!(rt; refuses(alloc, most.as_bytes(), OTHER_FORM)?);
+    let secret = Answer {
+        status: Status::Done,
+        out: "mask 1\nfield gf2\norder 1\nsecrets 1\npublics 0\nclaim s0\ncode\nout 0 1\nend\n",
+        err: "",
+    };
+    assert!(rt; answers(alloc, &["compile", "1"], most.as_bytes(), &WIDE, &secret)?);
     let more = nested(alloc, sum, "(", "a", ")", 65)?;
     assert!(rt; refuses(alloc, more.as_bytes(), "31 syntax 4:69\n")?);
     // What would open another is refused itself.

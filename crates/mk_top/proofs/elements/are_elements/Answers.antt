@@ -1,8 +1,7 @@
 -- A word other than `-` says elements where it is an even number of digits.
-use Rattle.std.proofs.Common.{◌≡◌, ◌≢◌, ℕ, ◌%◌, List, [], ◌∷◌, length, Bool, true, false, true≢false, refl, sym, ap, ◌∙◌, subst, arith}
-use Rattle.std.specs.Prelude.{codes, IsTrue}
+use Rattle.std.proofs.Common.{◌≢◌, ◌%◌, length, true≢false, sym, ◌∙◌}
+use Rattle.std.specs.Prelude.{codes}
 use Rattle.std.proofs.lemmas.Bool.Decides.{Decides-eqb}
-use Rattle.mk_top.specs.Forms.{AreElements}
 use Rattle.mk_top.proofs.Commands.{other-word}
 use Rattle.mk_top.proofs.Digits.{says-digits, says-only, no-byte, some-byte}
 use Rattle.mk_top.proofs.elements.are_elements.Goals as goal

@@ -1,5 +1,5 @@
 -- Digits are twice as many as their elements.
-use Rattle.std.proofs.Common.{◌≡◌, ℕ, List, ◌*◌, length, ap, ◌∙◌, Vec, Global, arith}
+use Rattle.std.proofs.Common.{◌≡◌, ℕ, ◌*◌, length, ap, ◌∙◌, Vec, Global, arith}
 use Rattle.std.specs.String.{string_bytes}
 use Rattle.hex.specs.Hex.{lower_digits}
 use Rattle.hex.proofs.HexLemmas.{length-encode_with}
