@@ -1,0 +1,23 @@
+//! Running codes: the encodings of secrets, the trace of one run, the random elements that a seed gives,
+//! and how many tapes show each tuple of values in two worlds.
+#![tactic(auto)]
+
+mod counting;
+mod encoding;
+mod inputs;
+mod limits;
+mod refusal;
+#[cfg(test)]
+mod run_tests;
+mod runner;
+mod running;
+mod seed;
+mod table;
+mod tally;
+
+pub use counting::count;
+pub use encoding::encode_all;
+pub use refusal::{CountRefusal, InputRefusal, RunRefusal};
+pub use running::{Trace, run_code};
+pub use seed::tape_from_seed;
+pub use table::{Row, Table};
