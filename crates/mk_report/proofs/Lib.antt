@@ -1,0 +1,5 @@
+pub mod Ascending
+pub mod Merged
+pub mod Passed
+pub mod Texts
+mod Worked

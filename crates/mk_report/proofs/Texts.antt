@@ -1,0 +1,158 @@
+-- Lines that are appended one after the other, and that a report is the only one.
+use Rattle.std.proofs.Common.{◌≡◌, ℕ, zero, suc, ◌+◌, ◌<◌, true, false, Option, Some, IsSomeAnd, List, [], ◌∷◌, ◌++◌, length, take, get_or, slice_get, refl, sym, ◌∙◌, ap, subst, arith, append_assoc, append-nil}
+use Rattle.std.specs.List.{flat_map, range_with_len, enumerate_from, sum_by}
+use Rattle.std.proofs.lemmas.Bool.{both_ways}
+use Rattle.std.proofs.lemmas.Grind.{flat_map-append}
+use Rattle.std.proofs.lemmas.List.{take_more, length-append, length-map}
+use Rattle.std.proofs.lemmas.List.Concat.{flat_map-cons}
+use Rattle.std.proofs.lemmas.List.FromFn.{length-enumerate_from, get_or-enumerate_from}
+use Rattle.std.proofs.lemmas.List.Sums.{sum_by-cons}
+use Rattle.mk_code.specs.Listing.{Listing}
+use Rattle.mk_ssa.specs.declared.Op.{Op}
+use Rattle.mk_ssa.specs.declared.Op.TheVariants.{Const, PubAdd, PubMul, PubSq, PubMap, Lift, Add, AddPub, Scale, Sq, Map, Mul, Refresh}
+use Rattle.mk_ssa.specs.declared.Operand.{Operand}
+use Rattle.mk_ssa.specs.declared.Operand.TheVariants.{Secret, Public, Block}
+use Rattle.mk_ssa.specs.Kinds.{is_public}
+use Rattle.mk_gadget.specs.Gadget.{Gadget, moved, placement, placed, placed_outs}
+use Rattle.mk_gadget.specs.Template.{built_in}
+use Rattle.mk_gadget.specs.Product.{product_gadget}
+use Rattle.mk_gadget.specs.Refresh.{refresh_gadget}
+use Rattle.mk_rules.specs.Claimed.{Claimed}
+use Rattle.mk_rules.specs.Tiles.{laid, reads, value_number, input_banks, first_place}
+use Rattle.mk_rules.specs.Wired.{IsSharedThere, Wired}
+use Rattle.mk_rules.specs.Accepts.{IsAccepted}
+use Rattle.mk_rules.proofs.Doubled.{HasValue, reaches-there}
+use Rattle.mk_bundle.specs.Words.{hex_byte, operand_word}
+use Rattle.mk_bundle.specs.CertLines.{op_line, block_line as line_of_block, pair_words, mapped_words}
+use Rattle.mk_report.specs.declared.need.Place.{Place}
+use Rattle.mk_report.specs.Reached.{ReachesPlace, ArePlacesOf}
+use Rattle.mk_report.specs.Report.{IsReport, kind_word, instrs_of, secret_line, block_line, total_line}
+use Rattle.mk_report.proofs.Ascending.{in-front, ascending-same}
+
+-- one line more
+pub line-more : {X : Type 0} (f : X → List ℕ) (xs ys : List X) (x : X) (start now after : List ℕ) → ys ≡ xs ++ x ∷ []
+    → now ≡ start ++ flat_map f xs → after ≡ now ++ f x → after ≡ start ++ flat_map f ys
+line-more f xs ys x start now after more so_far appended =
+    appended ∙ ap (λ (t : List ℕ). t ++ f x) so_far ∙ append_assoc start (flat_map f xs) (f x)
+    ∙ ap (λ (t : List ℕ). start ++ (flat_map f xs ++ t)) (sym (append-nil (f x)) ∙ sym (flat_map-cons f x []))
+    ∙ ap (λ (t : List ℕ). start ++ t) (sym (flat_map-append f xs (x ∷ [])))
+    ∙ ap (λ (zs : List _). start ++ flat_map f zs) (sym more)
+
+-- one number more
+range-more : (a n : ℕ) → range_with_len a (n + 1) ≡ range_with_len a n ++ (a + n) ∷ []
+range-more a zero = let e : a ≡ a + 0 = omega arith in ap (λ (k : ℕ). k ∷ []) e
+range-more a (suc n) =
+    let e : a + 1 + n ≡ a + suc n = omega arith in
+    let one : suc n + 1 ≡ suc (n + 1) = omega arith in
+    ap (range_with_len a) one
+    ∙ ap (λ (ks : List ℕ). a ∷ ks) (range-more (a + 1) n ∙ ap (λ (k : ℕ). range_with_len (a + 1) n ++ k ∷ []) e)
+
+-- from the first one on
+pub numbers-more : (n : ℕ) → range_with_len 0 (n + 1) ≡ range_with_len 0 n ++ n ∷ []
+numbers-more n = let e : 0 + n ≡ n = omega arith in range-more 0 n ∙ ap (λ (k : ℕ). range_with_len 0 n ++ k ∷ []) e
+
+-- one block more, with its number
+pub rows-more : {X : Type 0} (xs : List X) (i : ℕ) (d : X) → i < length xs
+    → take (i + 1) (enumerate_from 0 xs) ≡ take i (enumerate_from 0 xs) ++ (i, get_or xs i d) ∷ []
+rows-more xs i d within =
+    let long : length (enumerate_from 0 xs) ≡ length xs = length-enumerate_from 0 xs in
+    let e : 0 + i ≡ i = omega arith in
+    take_more (enumerate_from 0 xs) i (0, d) (omega (arith, within, long))
+    ∙ ap (λ (row : ℕ × _). take i (enumerate_from 0 xs) ++ row ∷ []) (get_or-enumerate_from 0 xs i (0, d) within ∙ ap (λ (k : ℕ). (k, get_or xs i d)) e)
+
+-- functions that agree make the same lines
+flat_map-same : {X : Type 0} (f g : X → List ℕ) (xs : List X) → ((x : X) → f x ≡ g x) → flat_map f xs ≡ flat_map g xs
+flat_map-same f g [] same = refl
+flat_map-same f g (x ∷ xs) same =
+    flat_map-cons f x xs ∙ ap (λ (t : List ℕ). t ++ flat_map f xs) (same x) ∙ ap (λ (t : List ℕ). g x ++ t) (flat_map-same f g xs same)
+    ∙ sym (flat_map-cons g x xs)
+
+-- a value has its places alone
+places-one : (code : Listing) (blocks : List Op) (v : ℕ) (ps qs : List Place) → ArePlacesOf code blocks v ps → ArePlacesOf code blocks v qs → ps ≡ qs
+places-one code blocks v ps qs first second =
+    ascending-same ps qs first.ascending second.ascending
+    (λ p held. (second.reached p).1 ((first.reached p).0 held))
+    (λ p held. (first.reached p).1 ((second.reached p).0 held))
+
+-- so there is one report
+pub report-one : (code : Listing) (cert : Claimed) (text other : List ℕ) → IsReport code cert text → IsReport code cert other → text ≡ other
+report-one code cert text other first second =
+    let same : (v : ℕ) → first.places v ≡ second.places v =
+    λ v. places-one code cert.blocks v (first.places v) (second.places v) (first.reached v) (second.reached v) in
+    let inputs : ℕ = code.secrets + code.publics in
+    let secrets : flat_map (λ k. secret_line k (first.places k)) (range_with_len 0 code.secrets)
+    ≡ flat_map (λ k. secret_line k (second.places k)) (range_with_len 0 code.secrets) =
+    flat_map-same (λ k. secret_line k (first.places k)) (λ k. secret_line k (second.places k)) (range_with_len 0 code.secrets)
+    (λ k. ap (secret_line k) (same k)) in
+    let rows : flat_map (λ row. block_line code.order row.0 row.1 (first.places (inputs + row.0))) (enumerate_from 0 cert.blocks)
+    ≡ flat_map (λ row. block_line code.order row.0 row.1 (second.places (inputs + row.0))) (enumerate_from 0 cert.blocks) =
+    flat_map-same (λ row. block_line code.order row.0 row.1 (first.places (inputs + row.0)))
+    (λ row. block_line code.order row.0 row.1 (second.places (inputs + row.0))) (enumerate_from 0 cert.blocks)
+    (λ row. ap (block_line code.order row.0 row.1) (same (inputs + row.0))) in
+    let total : List ℕ = total_line code.order cert.blocks in
+    first.is
+    ∙ ap (λ (t : List ℕ). t ++ flat_map (λ row. block_line code.order row.0 row.1 (first.places (inputs + row.0))) (enumerate_from 0 cert.blocks) ++ total) secrets
+    ∙ ap (λ (t : List ℕ). flat_map (λ k. secret_line k (second.places k)) (range_with_len 0 code.secrets) ++ t ++ total) rows
+    ∙ sym second.is
+
+-- the kinds are the words of block lines
+pub kind-of-line : (op : Op) → (words : List ℕ) × (op_line op ≡ line_of_block (kind_word op) words)
+kind-of-line (Const value) = (hex_byte value, refl)
+kind-of-line (PubAdd left right) = (pair_words left right, refl)
+kind-of-line (PubMul left right) = (pair_words left right, refl)
+kind-of-line (PubSq arg) = (operand_word arg, refl)
+kind-of-line (PubMap k arg) = (mapped_words k arg, refl)
+kind-of-line (Lift arg) = (operand_word arg, refl)
+kind-of-line (Add left right) = (pair_words left right, refl)
+kind-of-line (AddPub left right) = (pair_words left right, refl)
+kind-of-line (Scale left right) = (pair_words left right, refl)
+kind-of-line (Sq arg) = (operand_word arg, refl)
+kind-of-line (Map k arg) = (mapped_words k arg, refl)
+kind-of-line (Mul left right) = (pair_words left right, refl)
+kind-of-line (Refresh arg) = (operand_word arg, refl)
+
+-- a shared value that is there with the number of a block is a shared block
+block-shared : (code : Listing) (blocks : List Op) (k : ℕ) (op : Op) (v : Operand) → IsSharedThere code blocks v
+    → value_number code v ≡ code.secrets + code.publics + k → slice_get blocks k ≡ Some op → is_public op ≡ true → ⊥
+block-shared code blocks k op (Secret i) there is at known = omega (arith, there, is)
+block-shared code blocks k op (Public i) there is at known = absurd there
+block-shared code blocks k op (Block i) there is at known =
+    let same : i ≡ k = omega (arith, is) in
+    let off : is_public op ≡ false =
+    subst (λ (o : Option Op). IsSomeAnd o (λ op. is_public op ≡ false)) (ap (slice_get blocks) same ∙ at) there in
+    both_ways (is_public op) off known
+
+-- a public block reaches nothing
+pub public-none : (code : Listing) (blocks : List Op) (k : ℕ) (op : Op) (places : List Place) → Wired code blocks → slice_get blocks k ≡ Some op
+    → is_public op ≡ true → ArePlacesOf code blocks (code.secrets + code.publics + k) places → places ≡ []
+public-none code blocks k op [] wired at known are = refl
+public-none code blocks k op (p ∷ ps) wired at known are =
+    let reaches : ReachesPlace code blocks (code.secrets + code.publics + k) p = (are.reached p).0 (in-front p ps p refl) in
+    let value : HasValue code blocks (code.secrets + code.publics + k) =
+    reaches-there code blocks wired (code.secrets + code.publics + k) p.block p.operand reaches.1 in
+    absurd (block-shared code blocks k op value.value value.there value.is at known)
+
+-- as many instructions are laid as the blocks have
+laid-length : (code : Listing) (banks : List (List ℕ)) (base : ℕ) (ops : List Op)
+    → length (laid code (product_gadget (code.order + 1)) (refresh_gadget (code.order + 1)) banks base ops) ≡ sum_by (instrs_of code.order) ops
+unfolding laid
+laid-length code banks base [] = refl
+laid-length code banks base (op ∷ ops) =
+    let gadget : Gadget = built_in (code.order + 1) op in
+    let at : List ℕ = reads code banks op in
+    let behind : List _ =
+    laid code (product_gadget (code.order + 1)) (refresh_gadget (code.order + 1)) (banks ++ placed_outs at base gadget ∷ []) (base + length gadget.instrs) ops in
+    let rest : length behind ≡ sum_by (instrs_of code.order) ops =
+    laid-length code (banks ++ placed_outs at base gadget ∷ []) (base + length gadget.instrs) ops in
+    length-append (placed at base gadget) behind
+    ∙ ap (λ (n : ℕ). n + length behind) (placed-length at base gadget)
+    ∙ ap (λ (n : ℕ). length gadget.instrs + n) rest
+    ∙ sym (sum_by-cons (instrs_of code.order) op ops)
+  where
+    placed-length : (at : List ℕ) (base : ℕ) (gadget : Gadget) → length (placed at base gadget) ≡ length gadget.instrs
+    placed-length at base gadget = length-map gadget.instrs (moved (placement at base))
+
+-- so the instructions of the blocks are those of the code
+pub total-is : (code : Listing) (cert : Claimed) → IsAccepted code cert → sum_by (instrs_of code.order) cert.blocks ≡ length code.instrs
+total-is code cert accepted =
+    sym (ap (λ (is : List _). length is) accepted.tiles ∙ laid-length code (input_banks code) (first_place code) cert.blocks)

@@ -1,0 +1,79 @@
+-- The text of a report: a line for each secret, one for each block, and the totals.
+use Rattle.std.specs.Prelude.{◌≡◌, ℕ, ◌+◌, List, [], ◌∷◌, ◌++◌, length, take, codes, decimal}
+use Rattle.std.specs.List.{flat_map, range_with_len, enumerate_from, sum_by}
+use Rattle.mk_code.specs.Listing.{Listing}
+use Rattle.mk_code.specs.Trace.{randoms}
+use Rattle.mk_ssa.specs.declared.Op.{Op}
+use Rattle.mk_ssa.specs.declared.Op.TheVariants.{Const, PubAdd, PubMul, PubSq, PubMap, Lift, Add, AddPub, Scale, Sq, Map, Mul, Refresh}
+use Rattle.mk_ssa.specs.declared.Operand.TheVariants.{Secret, Block}
+use Rattle.mk_gadget.specs.Template.{built_in}
+use Rattle.mk_rules.specs.Claimed.{Claimed}
+use Rattle.mk_bundle.specs.Words.{line, operand_word}
+use Rattle.mk_report.specs.declared.need.Place.{Place}
+use Rattle.mk_report.specs.Reached.{ArePlacesOf}
+
+-- the word that stands for an operator in a bundle text
+abbrev pub kind_word : Op → List ℕ
+kind_word (Const value) = codes "const"
+kind_word (PubAdd left right) = codes "padd"
+kind_word (PubMul left right) = codes "pmul"
+kind_word (PubSq arg) = codes "psq"
+kind_word (PubMap map arg) = codes "pmap"
+kind_word (Lift arg) = codes "lift"
+kind_word (Add left right) = codes "add"
+kind_word (AddPub left right) = codes "addp"
+kind_word (Scale left right) = codes "scale"
+kind_word (Sq arg) = codes "sq"
+kind_word (Map map arg) = codes "map"
+kind_word (Mul left right) = codes "mul"
+kind_word (Refresh arg) = codes "refresh"
+
+-- how many instructions a block has at an order
+abbrev pub instrs_of : ℕ → Op → ℕ
+instrs_of order op = length (built_in (order + 1) op).instrs
+
+-- how many random elements they take
+abbrev pub randoms_of : ℕ → Op → ℕ
+randoms_of order op = randoms (built_in (order + 1) op).instrs
+
+-- a place: its block, and which operand
+abbrev pub place_word : Place → List ℕ
+place_word p = operand_word (Block p.block) ++ codes "." ++ decimal p.operand
+
+-- places with commas between, or a dash
+abbrev pub places_word : List Place → List ℕ
+places_word [] = codes "-"
+places_word (p ∷ ps) = place_word p ++ flat_map (λ q. codes "," ++ place_word q) ps
+
+-- how many places, and the first eight of them
+abbrev pub need_words : List Place → List ℕ
+need_words places = decimal (length places) ++ codes " " ++ places_word (take 8 places)
+
+-- the line of a secret, which costs nothing and reaches these places
+abbrev pub secret_line : ℕ → List Place → List ℕ
+secret_line k places = line (operand_word (Secret k) ++ codes " input 0 0 " ++ need_words places)
+
+-- the line of a block
+abbrev pub block_line : ℕ → ℕ → Op → List Place → List ℕ
+block_line order k op places =
+    line (operand_word (Block k) ++ codes " " ++ kind_word op ++ codes " " ++ decimal (instrs_of order op) ++ codes " "
+    ++ decimal (randoms_of order op) ++ codes " " ++ need_words places)
+
+-- how many blocks there are, and what they cost together
+abbrev pub total_line : ℕ → List Op → List ℕ
+total_line order blocks =
+    line (codes "total " ++ decimal (length blocks) ++ codes " " ++ decimal (sum_by (instrs_of order) blocks) ++ codes " "
+    ++ decimal (sum_by (randoms_of order) blocks))
+
+-- the text where each value reaches these places
+abbrev pub report_text : Listing → List Op → (ℕ → List Place) → List ℕ
+report_text code blocks places =
+    flat_map (λ k. secret_line k (places k)) (range_with_len 0 code.secrets)
+    ++ flat_map (λ row. block_line code.order row.0 row.1 (places (code.secrets + code.publics + row.0))) (enumerate_from 0 blocks)
+    ++ total_line code.order blocks
+
+-- the report: of each value the places of products that it reaches
+pub record IsReport (code : Listing) (cert : Claimed) (text : List ℕ) : Type 0 where
+  pub places : ℕ → List Place
+  pub reached : (v : ℕ) → ArePlacesOf code cert.blocks v (places v)
+  pub is : text ≡ report_text code cert.blocks places

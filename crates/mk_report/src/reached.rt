@@ -1,0 +1,136 @@
+//! Which places of products values reach, from the last block to the first.
+
+ghost use Rattle.std.specs.Prelude.{◌≡◌, ◌+◌, ◌<◌, ◌^◌, ℕ, [], length, map, slice_get, slice_index_or, IfOk, OnOk, IfSome};
+ghost use Rattle.mk_rules.specs.Tiles.{value_number};
+ghost use Rattle.mk_rules.specs.Wired.{Wired};
+ghost use Rattle.mk_report.specs.Reached.{AreAscending, ArePlacesOf};
+ghost use Rattle.mk_report.specs.Passing.{passed_to as operands_of, brought as places_of, AllAscending, IsBrought};
+
+use crate::need::{Need, Place, union};
+use mk_base::{Items, Memory};
+use mk_code::Code;
+use mk_ssa::{Op, Operand};
+use std::alloc::Global;
+
+/// The number of an operand: first the secrets, then the public inputs, then the blocks.
+fn number(code: &Code, operand: Operand) -> usize
+    ensures { result ≡ value_number code.now operand }
+{
+    match operand {
+        Operand::Secret(k) => k as usize,
+        Operand::Public(k) => code.secrets() as usize + k as usize,
+        Operand::Block(k) => code.secrets() as usize + code.publics() as usize + k as usize,
+    }
+}
+
+/// The first and the second operand to which a block passes places on.
+fn passed_to(op: Op) -> (Option<Operand>, Option<Operand>)
+    ensures first { result.0 ≡ slice_get (operands_of op) 0 }
+    ensures second { result.1 ≡ slice_get (operands_of op) 1 }
+{
+    match op {
+        Op::Const { .. }
+        | Op::PubAdd { .. }
+        | Op::PubMul { .. }
+        | Op::PubSq { .. }
+        | Op::PubMap { .. }
+        | Op::Lift { .. }
+        | Op::Refresh { .. } => (None, None),
+        Op::AddPub { left, .. } | Op::Scale { left, .. } => (Some(left), None),
+        Op::Sq { arg } | Op::Map { arg, .. } => (Some(arg), None),
+        Op::Add { left, right } | Op::Mul { left, right } => (Some(left), Some(right)),
+    }
+}
+
+/// The numbers of these operands.
+fn passed_numbers(code: &Code, op: Op) -> (Option<usize>, Option<usize>)
+    ensures first { result.0 ≡ slice_get (map (value_number code.now) (operands_of op)) 0 }
+    ensures second { result.1 ≡ slice_get (map (value_number code.now) (operands_of op)) 1 }
+{
+    let (first, second) = passed_to(op);
+    (
+        first.map(|v| number(code, v)),
+        second.map(|v| number(code, v)),
+    )
+}
+
+/// What a block passes on to an operand: a product the place that is the operand's, another one the places
+/// of its own value.
+fn brought<'a>(op: Op, own: &'a [Place], here: &'a [Place]) -> &'a [Place]
+    ensures { result.now ≡ places_of op own.now here.now }
+{
+    match op {
+        Op::Mul { .. } => here,
+        _ => own,
+    }
+}
+
+/// Adds places to those of a value, if there is one.
+fn bring(
+    alloc: Global,
+    needs: &mut Vec<Need>,
+    value: Option<usize>,
+    places: &[Place],
+) -> Result<(), Memory>
+    requires there { IfSome value (λ v. v < length needs.old.items) }
+    requires needs { AllAscending needs.old.items }
+    requires places { AreAscending places.now }
+    ensures { OnOk result (IsBrought needs.old.items value places.now needs.new.items) }
+{
+    if let Some(v) = value {
+        let both = union(alloc, needs[v].as_slice(), places)?;
+        needs[v] = both;
+    }
+    Ok(())
+}
+
+/// No places of so many values.
+fn no_needs(alloc: Global, count: usize) -> Result<Vec<Need>, Memory>
+    ensures count { IfOk result (λ needs. length needs.items ≡ count) }
+    ensures none { IfOk result (λ needs. (v : ℕ) → slice_index_or needs.items v [] ≡ []) }
+{
+    let mut needs = Vec::new(alloc);
+    for _ in 0..count {
+        needs.push(Items::new(alloc))?;
+    }
+    Ok(needs)
+}
+
+/// The places of products that each value reaches, by its number.
+pub(crate) fn reached(alloc: Global, code: &Code, blocks: &[Op]) -> Result<Vec<Need>, Memory>
+    requires wired { Wired code.now blocks.now }
+    requires small { length blocks.now < 2 ^ 32 }
+    ensures count { IfOk result (λ needs. length needs.items ≡ code.now.secrets + code.now.publics + length blocks.now) }
+    ensures places { IfOk result (λ needs. (v : ℕ) → ArePlacesOf code.now blocks.now v (slice_index_or needs.items v [])) }
+{
+    let inputs = code.secrets() as usize + code.publics() as usize;
+    let mut needs = no_needs(alloc, inputs + blocks.len())?;
+    let mut k = blocks.len();
+    while k > 0 {
+        k -= 1;
+        let op = blocks[k];
+        let (first, second) = passed_numbers(code, op);
+        let own = needs[inputs + k].copy(alloc)?;
+        let at_first = [Place {
+            block: k as u32,
+            operand: 0,
+        }];
+        let at_second = [Place {
+            block: k as u32,
+            operand: 1,
+        }];
+        bring(
+            alloc,
+            &mut needs,
+            second,
+            brought(op, own.as_slice(), &at_second),
+        )?;
+        bring(
+            alloc,
+            &mut needs,
+            first,
+            brought(op, own.as_slice(), &at_first),
+        )?;
+    }
+    Ok(needs)
+}
