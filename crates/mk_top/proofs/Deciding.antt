@@ -18,7 +18,7 @@ use Rattle.mk_top.specs.declared.fault.SourceFault.{SourceFault}
 use Rattle.mk_top.specs.declared.fault.SourceFault.TheVariants as source
 use Rattle.mk_top.specs.declared.fault.CheckFault.{CheckFault}
 use Rattle.mk_top.specs.declared.fault.CheckFault.TheVariants as check
-use Rattle.mk_top.specs.Words.{Command, Compile, Check, Eval, SaysElements, Asks}
+use Rattle.mk_top.specs.Words.{Command, Compile, Check, Eval, Run, GivenTape, Seed, Tape, SaysElements, SaysTape, Asks}
 use Rattle.mk_parse.proofs.Refusals.{one_place, one_program}
 use Rattle.mk_unroll.specs.Causes.{Cause}
 use Rattle.mk_ast.specs.declared.tree.Program.{Program as Tree}
@@ -33,8 +33,9 @@ use Rattle.mk_ast.specs.declared.refusal.SourceRefusal.{SourceRefusal}
 use Rattle.mk_ast.specs.declared.refusal.SourceRefusal.TheVariants as refusal_
 use Rattle.mk_top.specs.Sources.{IsNoSource}
 use Rattle.mk_top.specs.Faults.{fault_of_source}
+use Rattle.mk_top.proofs.Commands.{seed-not-tape}
 use Rattle.mk_top.proofs.Causes.{cause-once, cause-outside}
-use Rattle.mk_top.specs.Answers.{refusal_of, PairDecides, BundleDecides, SourceDecides, CompileDecides, EvalDecides, TextDecides, Decides, limit_of}
+use Rattle.mk_top.specs.Answers.{refusal_of, PairDecides, BundleDecides, SourceDecides, CompileDecides, EvalDecides, RunDecides, TextDecides, Decides, limit_of}
 
 -- `-` is no text of hexadecimal digits
 dash : (word xs : List ℕ) → word ≡ codes "-" → decode_of word ≡ Ok xs → ⊥
@@ -47,6 +48,13 @@ says-one word xs ys (inl a) (inr b) = absurd (dash word ys a.0 b.1)
 says-one word xs ys (inr a) (inl b) = absurd (dash word xs b.0 a.1)
 says-one word xs ys (inr a) (inr b) = decode_of-same word xs ys a.1 b.1
 
+-- two words say one tape
+says-tape-one : (kind word : List ℕ) (a b : GivenTape) → SaysTape kind word a → SaysTape kind word b → a ≡ b
+says-tape-one kind word (Seed xs) (Seed ys) first second = ap Seed (decode_of-same word xs ys first.1.1 second.1.1)
+says-tape-one kind word (Seed xs) (Tape ys) first second = absurd (seed-not-tape (sym first.0 ∙ second.0))
+says-tape-one kind word (Tape xs) (Seed ys) first second = absurd (seed-not-tape (sym second.0 ∙ first.0))
+says-tape-one kind word (Tape xs) (Tape ys) first second = ap Tape (says-one word xs ys first.1 second.1)
+
 -- the words ask for one command
 pub asks-one : (words : List (List ℕ)) (a b : Command) → Asks words a → Asks words b → a ≡ b
 asks-one words (Compile m) (Compile n) first second =
@@ -57,9 +65,11 @@ asks-one words (Compile m) (Compile n) first second =
     ap Compile orders
 asks-one words (Compile m) Check first second = let e = first.1 in let f = second in cc
 asks-one words (Compile m) (Eval ps ss) first second = let e = first.1 in let f = second.2 in cc
+asks-one words (Compile m) (Run ps ss t) first second = let e = first.1 in let f = second.4 in cc
 asks-one words Check (Compile n) first second = let e = first in let f = second.1 in cc
 asks-one words Check Check first second = refl
 asks-one words Check (Eval ps ss) first second = let e = first in let f = second.2 in cc
+asks-one words Check (Run ps ss t) first second = let e = first in let f = second.4 in cc
 asks-one words (Eval ps ss) (Compile n) first second = let e = first.2 in let f = second.1 in cc
 asks-one words (Eval ps ss) Check first second = let e = first.2 in let f = second in cc
 asks-one words (Eval ps ss) (Eval qs ts) first second =
@@ -67,6 +77,18 @@ asks-one words (Eval ps ss) (Eval qs ts) first second =
     let two : first.1 ≡ second.1 = let e = first.2 in let f = second.2 in cc in
     ap (λ (xs : List ℕ). Eval xs ss) (says-one second.0 ps qs (subst (λ (w : List ℕ). SaysElements w ps) one first.3) second.3)
     ∙ ap (Eval qs) (says-one second.1 ss ts (subst (λ (w : List ℕ). SaysElements w ss) two first.4) second.4)
+asks-one words (Eval ps ss) (Run qs ts t) first second = let e = first.2 in let f = second.4 in cc
+asks-one words (Run ps ss s) (Compile n) first second = let e = first.4 in let f = second.1 in cc
+asks-one words (Run ps ss s) Check first second = let e = first.4 in let f = second in cc
+asks-one words (Run ps ss s) (Eval qs ts) first second = let e = first.4 in let f = second.2 in cc
+asks-one words (Run ps ss s) (Run qs ts t) first second =
+    let one : first.0 ≡ second.0 = let e = first.4 in let f = second.4 in cc in
+    let two : first.1 ≡ second.1 = let e = first.4 in let f = second.4 in cc in
+    let three : first.2 ≡ second.2 = let e = first.4 in let f = second.4 in cc in
+    let four : first.3 ≡ second.3 = let e = first.4 in let f = second.4 in cc in
+    ap (λ (xs : List ℕ). Run xs ss s) (says-one second.0 ps qs (subst (λ (w : List ℕ). SaysElements w ps) one first.5) second.5)
+    ∙ ap (λ (xs : List ℕ). Run qs xs s) (says-one second.1 ss ts (subst (λ (w : List ℕ). SaysElements w ss) two first.6) second.6)
+    ∙ ap (Run qs ts) (says-tape-one second.2 second.3 s t (subst (λ (k : List ℕ). SaysTape k second.3 s) three (subst (λ (w : List ℕ). SaysTape first.2 w s) four first.7)) second.7)
 
 -- a refusal tells of one fault
 refusal-one : (a b : CheckFault) → refusal_of a ≡ refusal_of b → a ≡ b
@@ -182,22 +204,27 @@ names-one bytes m n first second =
       ]
     ]
 
+-- and a code and certificate decide one answer under `run`
+run-one : (publics secrets : List ℕ) (tape : GivenTape) (code : Listing) (cert : Claimed) (a b : Option Fault)
+    → RunDecides publics secrets tape code cert a → RunDecides publics secrets tape code cert b → a ≡ b
+run-one publics secrets tape code cert a b first second = first ∙ sym second
+
 -- what a bundle decides, by its code and certificate
-record Pair (bytes : List ℕ) (answer : Option Fault) : Type 0 where
+record Pair (decides : Listing → Claimed → Option Fault → Type 0) (bytes : List ℕ) (answer : Option Fault) : Type 0 where
   pub code : Listing
   pub cert : Claimed
   pub pair : IsPair code cert
   pub bytes_are : bytes ≡ text code cert
-  pub decides : PairDecides code cert answer
+  pub decided : decides code cert answer
 
 -- a bundle text goes wrong at a line, or is that of a pair
-data Bundled (bytes : List ℕ) (answer : Option Fault) : Type 0 where
-  wrong : (line : ℕ) → answer ≡ Some (fault.Bundle line) → NamesFirst line bytes → (IsBundleText bytes → ⊥) → Bundled bytes answer
-  paired : Pair bytes answer → Bundled bytes answer
+data Bundled (decides : Listing → Claimed → Option Fault → Type 0) (bytes : List ℕ) (answer : Option Fault) : Type 0 where
+  wrong : (line : ℕ) → answer ≡ Some (fault.Bundle line) → NamesFirst line bytes → (IsBundleText bytes → ⊥) → Bundled decides bytes answer
+  paired : Pair decides bytes answer → Bundled decides bytes answer
 
-bundled : (bytes : List ℕ) (answer : Option Fault) → BundleDecides bytes answer → Bundled bytes answer
-bundled bytes (Some (fault.Bundle line)) d = wrong line refl d.0 d.1
-bundled bytes answer d = paired (record { code = d.0; cert = d.1; pair = d.2; bytes_are = d.3; decides = d.4 })
+bundled : (decides : Listing → Claimed → Option Fault → Type 0) (bytes : List ℕ) (answer : Option Fault) → BundleDecides decides bytes answer → Bundled decides bytes answer
+bundled decides bytes (Some (fault.Bundle line)) d = wrong line refl d.0 d.1
+bundled decides bytes answer d = paired (record { code = d.0; cert = d.1; pair = d.2; bytes_are = d.3; decided = d.4 })
 
 -- the input is too long, or its bytes within the limit decide
 within-or-long : (command : Command) (bytes : List ℕ) (answer : Option Fault) → Decides command bytes answer
@@ -207,29 +234,35 @@ within-or-long command bytes answer d = inr d
 
 module _ (differ : TextsDiffer) where
   -- equal texts are those of equal pairs, which decide one answer
-  pairs-one : (bytes : List ℕ) (a b : Option Fault) → Pair bytes a → Pair bytes b → a ≡ b
-  pairs-one bytes a b first second =
+  pairs-one : (decides : Listing → Claimed → Option Fault → Type 0)
+      → ((code : Listing) (cert : Claimed) (a b : Option Fault) → decides code cert a → decides code cert b → a ≡ b)
+      → (bytes : List ℕ) (a b : Option Fault) → Pair decides bytes a → Pair decides bytes b → a ≡ b
+  pairs-one decides one bytes a b first second =
       let same : text first.code first.cert ≡ text second.code second.cert ++ [] =
       sym first.bytes_are ∙ second.bytes_are ∙ sym (append-nil (text second.code second.cert)) in
       let equal = differ first.code second.code first.cert second.cert [] first.pair second.pair same in
-      pair-one second.code second.cert a b
-      (subst (λ (k : Claimed). PairDecides second.code k a) equal.1 (subst (λ (k : Listing). PairDecides k first.cert a) equal.0 first.decides))
-      second.decides
+      one second.code second.cert a b
+      (subst (λ (k : Claimed). decides second.code k a) equal.1 (subst (λ (k : Listing). decides k first.cert a) equal.0 first.decided))
+      second.decided
 
-  -- a bundle text decides one answer
-  bundle-one : (bytes : List ℕ) (a b : Option Fault) → Bundled bytes a → Bundled bytes b → a ≡ b
-  bundle-one bytes a b (wrong m e names none) (wrong n f others never) = e ∙ ap (λ (l : ℕ). Some (fault.Bundle l)) (names-one bytes m n names others) ∙ sym f
-  bundle-one bytes a b (wrong m e names none) (paired p) = absurd (none (p.code, p.cert, p.pair, p.bytes_are))
-  bundle-one bytes a b (paired p) (wrong n f others never) = absurd (never (p.code, p.cert, p.pair, p.bytes_are))
-  bundle-one bytes a b (paired p) (paired q) = pairs-one bytes a b p q
+  -- a bundle text decides one answer, where a code and certificate do
+  bundle-one : (decides : Listing → Claimed → Option Fault → Type 0)
+      → ((code : Listing) (cert : Claimed) (a b : Option Fault) → decides code cert a → decides code cert b → a ≡ b)
+      → (bytes : List ℕ) (a b : Option Fault) → Bundled decides bytes a → Bundled decides bytes b → a ≡ b
+  bundle-one decides one bytes a b (wrong m e names none) (wrong n f others never) = e ∙ ap (λ (l : ℕ). Some (fault.Bundle l)) (names-one bytes m n names others) ∙ sym f
+  bundle-one decides one bytes a b (wrong m e names none) (paired p) = absurd (none (p.code, p.cert, p.pair, p.bytes_are))
+  bundle-one decides one bytes a b (paired p) (wrong n f others never) = absurd (never (p.code, p.cert, p.pair, p.bytes_are))
+  bundle-one decides one bytes a b (paired p) (paired q) = pairs-one decides one bytes a b p q
 
   -- the text that a command reads decides one answer
   text-one : (command : Command) (bytes : List ℕ) (a b : Option Fault) → TextDecides command bytes a → TextDecides command bytes b → a ≡ b
   text-one (Compile order) bytes a b first second =
       source-one (CompileDecides order) bytes (compile-one order) a b (sourced (CompileDecides order) bytes a first) (sourced (CompileDecides order) bytes b second)
-  text-one Check bytes a b first second = bundle-one bytes a b (bundled bytes a first) (bundled bytes b second)
+  text-one Check bytes a b first second = bundle-one PairDecides pair-one bytes a b (bundled PairDecides bytes a first) (bundled PairDecides bytes b second)
   text-one (Eval ps ss) bytes a b first second =
       source-one (EvalDecides ps ss) bytes (eval-one ps ss) a b (sourced (EvalDecides ps ss) bytes a first) (sourced (EvalDecides ps ss) bytes b second)
+  text-one (Run ps ss t) bytes a b first second =
+      bundle-one (RunDecides ps ss t) (run-one ps ss t) bytes a b (bundled (RunDecides ps ss t) bytes a first) (bundled (RunDecides ps ss t) bytes b second)
 
   -- the input of a command decides one answer
   pub decides-one : (command : Command) (bytes : List ℕ) (a b : Option Fault) → Decides command bytes a → Decides command bytes b → a ≡ b

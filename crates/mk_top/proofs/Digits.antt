@@ -1,13 +1,14 @@
 -- Words of elements are made of hexadecimal digits.
-use Rattle.std.proofs.Common.{◌≡◌, ◌≢◌, ℕ, suc, ◌%◌, ◌≤◌, List, [], ◌∷◌, length, Bool, true, false, true≢false, ◌==◌, refl, sym, ◌∙◌, inl, inr, arith}
+use Rattle.std.proofs.Common.{◌≡◌, ◌≢◌, ℕ, suc, ◌%◌, ◌≤◌, List, [], ◌∷◌, length, Bool, true, false, true≢false, ◌==◌, refl, sym, ap, ◌∙◌, inl, inr, arith, Result, Ok, Err}
 use Rattle.std.proofs.lemmas.Bool.Decides.{Decides-eqb}
-use Rattle.std.specs.Prelude.{codes, is_some, nat_le, ◌&&◌, ◌||◌, if◌then◌else◌, Some, None}
+use Rattle.std.specs.Prelude.{codes, MatchResult, is_some, nat_le, ◌&&◌, ◌||◌, if◌then◌else◌, Some, None}
 use Rattle.std.specs.List.{AllPass}
 use Rattle.std.specs.Char.{is_ascii_hexdigit}
 use Rattle.std.proofs.lemmas.List.Elements.{All-weaker}
-use Rattle.hex.specs.Hex.{is_hex_digit}
-use Rattle.hex.proofs.HexLemmas.{decode_of-ok, decode_of-digits}
-use Rattle.mk_top.specs.Words.{SaysElements}
+use Rattle.hex.specs.Hex.{decode_sized, is_hex_digit}
+use Rattle.hex.specs.declared.error.FromHexError.{FromHexError}
+use Rattle.hex.proofs.HexLemmas.{decode_of-ok, decode_of-digits, decode_sized-ok, decode_sized-twice}
+use Rattle.mk_top.specs.Words.{SaysElements, SaysSeed}
 use Rattle.mk_top.specs.Forms.{AreElements}
 
 -- of three tests the order is the same
@@ -58,3 +59,24 @@ no-byte (x ∷ xs) none = absurd (zero-not (length xs) ((Decides-eqb (length (x 
 pub some-byte : (word : List ℕ) → (length word == 0) ≡ false → word ≡ [] → ⊥
 some-byte [] some none = absurd (true≢false some)
 some-byte (x ∷ xs) some none = absurd cc
+
+-- what the decoding of 32 bytes accepts is the word of a seed
+pub seed-said : (word seed : List ℕ) (r : Result (Unit {0}) FromHexError)
+    → MatchResult (decode_sized word 32) (λ bytes. (r ≡ Ok tt) × (seed ≡ bytes)) (λ e. r ≡ Err e) → r ≡ Ok tt → SaysSeed word seed
+seed-said word seed r value ok = by (decode_sized word 32) refl value
+  where
+    by : (d : Result (List ℕ) FromHexError) → decode_sized word 32 ≡ d → MatchResult d (λ bytes. (r ≡ Ok tt) × (seed ≡ bytes)) (λ e. r ≡ Err e) → SaysSeed word seed
+    by (Ok bytes) is said =
+        let long = decode_sized-ok word 32 bytes is in
+        (long, sym (decode_sized-twice word 32 long) ∙ is ∙ ap (λ (bs : List ℕ). Ok bs) (sym said.1))
+    by (Err e) is said = let both : Ok tt ≡ Err e = sym ok ∙ said in absurd cc
+
+-- and what it refuses is not
+pub seed-unsaid : (word seed : List ℕ) (r : Result (Unit {0}) FromHexError) (e : FromHexError)
+    → MatchResult (decode_sized word 32) (λ bytes. (r ≡ Ok tt) × (seed ≡ bytes)) (λ e. r ≡ Err e) → r ≡ Err e
+    → (other : List ℕ) → SaysSeed word other → ⊥
+seed-unsaid word seed r e value err other says = by (decode_sized word 32) refl value
+  where
+    by : (d : Result (List ℕ) FromHexError) → decode_sized word 32 ≡ d → MatchResult d (λ bytes. (r ≡ Ok tt) × (seed ≡ bytes)) (λ e. r ≡ Err e) → ⊥
+    by (Ok bytes) is said = let both : Ok tt ≡ Err e = sym said.0 ∙ err in absurd cc
+    by (Err f) is said = let both : Ok other ≡ Err f = sym says.1 ∙ sym (decode_sized-twice word 32 says.0) ∙ is in absurd cc

@@ -6,9 +6,11 @@ use Rattle.mk_bundle.specs.Pairs.{TextsDiffer}
 use Rattle.mk_top.specs.declared.status.Status.TheVariants as status
 use Rattle.mk_top.specs.declared.fault.Fault.{Fault}
 use Rattle.mk_top.specs.declared.fault.Fault.TheVariants as fault_
-use Rattle.mk_top.specs.Words.{Command, Compile, Check, Eval, Asks}
-use Rattle.mk_top.specs.Forms.{OfElements}
-use Rattle.mk_top.specs.Faults.{fault_of_eval, status_of}
+use Rattle.mk_top.specs.Words.{Command, Compile, Check, Eval, Run, GivenTape, Seed, Tape, SaysElements, SaysTape, Asks}
+use Rattle.mk_top.specs.Forms.{AreElements, IsTapeForm, OfElements, OfRun, SaysTapeSo, IsGivenBy}
+use Rattle.mk_top.specs.declared.command.TapeForm.{TapeForm}
+use Rattle.mk_top.specs.declared.command.TapeForm.TheVariants as tape_
+use Rattle.mk_top.specs.Faults.{fault_of_eval, fault_of_run, status_of}
 use Rattle.mk_top.specs.Answers.{ReadWhole, Makes, Decides, TextDecides, Because, TakesWhole, TakesSome, IsOrMemory, answer_status, limit_of}
 use Rattle.mk_top.specs.Running.{Finished, StoppedAt, Stopped}
 use Rattle.mk_top.proofs.Deciding.{asks-one, decides-one}
@@ -21,6 +23,8 @@ makes-decides Check bytes written makes within =
     (within, (makes.0.code, makes.0.cert, makes.0.pair, makes.0.bundle, makes.0.accepted))
 makes-decides (Eval ps ss) bytes written makes within =
     (within, (makes.tree, makes.source.spelled.spelled, makes.source.typed, sym (ap (option_map fault_of_eval) makes.taken)))
+makes-decides (Run ps ss tape) bytes written makes within =
+    (within, (makes.code, makes.cert, makes.pair, makes.bundle, sym (ap (option_map fault_of_run) makes.taken)))
 
 module _ (words : List (List ℕ)) (given after : Option (List ℕ)) (reads then_reads : ℕ) (before taken : Option (List ℕ)) (writes then_writes : ℕ) where
   -- a run that stopped under words that ask for a command stopped at this command
@@ -66,6 +70,20 @@ stopped-because command given after reads then_reads before taken writes then_wr
 stopped-because command given after reads then_reads before taken writes then_writes fault_.Memory s = tt
 stopped-because command given after reads then_reads before taken writes then_writes (fault_.TooLong at) s = s
 
+-- a command that stopped where the output failed had its text made, and a prefix of it taken
+pub stopped-cut : (command : Command) (given after : Option (List ℕ)) (reads then_reads : ℕ) (before taken : Option (List ℕ)) (writes then_writes : ℕ) (fault : Fault)
+    → StoppedAt command given after reads then_reads before taken writes then_writes fault → status_of fault ≡ status.WriteFault
+    → (written : List ℕ) × Makes command given written × TakesSome before written taken
+stopped-cut command given after reads then_reads before taken writes then_writes fault_.Words s is = absurd cc
+stopped-cut command given after reads then_reads before taken writes then_writes (fault_.Source why) s is = absurd cc
+stopped-cut command given after reads then_reads before taken writes then_writes (fault_.Inputs why) s is = absurd cc
+stopped-cut command given after reads then_reads before taken writes then_writes (fault_.Check why) s is = absurd cc
+stopped-cut command given after reads then_reads before taken writes then_writes (fault_.Bundle line) s is = absurd cc
+stopped-cut command given after reads then_reads before taken writes then_writes fault_.ReadFault s is = absurd cc
+stopped-cut command given after reads then_reads before taken writes then_writes fault_.WriteFault s is = (s.written, s.makes, s.some)
+stopped-cut command given after reads then_reads before taken writes then_writes fault_.Memory s is = absurd cc
+stopped-cut command given after reads then_reads before taken writes then_writes (fault_.TooLong at) s is = absurd cc
+
 -- a command whose text was put is finished where it was put whole
 pub put-finished : (command : Command) (given after before taken : Option (List ℕ)) (written : List ℕ) (r : Result (Unit {0}) Fault)
     → ReadWhole (limit_of command) given after → Makes command given written → OnOk r (TakesWhole before written taken) → OnOk r (Finished command given after before taken)
@@ -99,6 +117,53 @@ stopped-evaluated words first second given after reads then_reads before taken w
 stopped-evaluated words first second given after reads then_reads before taken writes then_writes (Err fault) asks stopped =
     stopped-asked words (Eval stopped.0 stopped.1) given after reads then_reads before taken writes then_writes (Err fault)
     (first, second, asks, stopped.2, stopped.3) stopped.4
+
+-- the tape that the words give is the one that they say
+tape-said : (kind word : List ℕ) (tape : TapeForm) (given : GivenTape) → SaysTapeSo kind word tape → IsGivenBy tape given → SaysTape kind word given
+tape-said kind word (tape_.Seed seed) given says by = subst (SaysTape kind word) (sym by) says
+tape-said kind word (tape_.Elements at) given says by =
+    subst (SaysTape kind word) (sym by.2) (says.0, subst (λ (w : List ℕ). SaysElements w by.0) (sym says.1) by.1)
+
+-- words of a run ask for the run on what they say
+asks-run : (words : List (List ℕ)) (kind word : List ℕ) (first second : List ℕ) (tape : TapeForm) (P : Command → Type 0)
+    → words ≡ codes "run" ∷ first ∷ second ∷ kind ∷ word ∷ [] → SaysTapeSo kind word tape → OfRun first second tape P → (command : Command) × Asks words command × P command
+asks-run words kind word first second tape P asks says of =
+    (Run of.0 of.1 of.2, (first, second, kind, word, asks, of.3, of.4, tape-said kind word tape of.2 says of.5), of.6)
+
+-- a run on what the words say that was carried out is one that the words ask for
+pub finished-run : (words : List (List ℕ)) (kind word : List ℕ) (first second : List ℕ) (tape : TapeForm) (given after before taken : Option (List ℕ)) (r : Result (Unit {0}) Fault)
+    → words ≡ codes "run" ∷ first ∷ second ∷ kind ∷ word ∷ [] → SaysTapeSo kind word tape
+    → OnOk r (OfRun first second tape (λ command. Finished command given after before taken))
+    → OnOk r ((command : Command) × Asks words command × Finished command given after before taken)
+finished-run words kind word first second tape given after before taken (Ok done) asks says finished =
+    asks-run words kind word first second tape (λ command. Finished command given after before taken) asks says finished
+finished-run words kind word first second tape given after before taken (Err fault) asks says finished = tt
+
+-- and one that stopped is a run that stopped
+pub stopped-run : (words : List (List ℕ)) (kind word : List ℕ) (first second : List ℕ) (tape : TapeForm) (given after : Option (List ℕ)) (reads then_reads : ℕ) (before taken : Option (List ℕ)) (writes then_writes : ℕ) (r : Result (Unit {0}) Fault)
+    → words ≡ codes "run" ∷ first ∷ second ∷ kind ∷ word ∷ [] → SaysTapeSo kind word tape
+    → IfErr r (λ fault. OfRun first second tape (λ command. StoppedAt command given after reads then_reads before taken writes then_writes fault))
+    → IfErr r (Stopped words given after reads then_reads before taken writes then_writes)
+stopped-run words kind word first second tape given after reads then_reads before taken writes then_writes (Ok done) asks says stopped = tt
+stopped-run words kind word first second tape given after reads then_reads before taken writes then_writes (Err fault) asks says stopped =
+    let run = asks-run words kind word first second tape (λ command. StoppedAt command given after reads then_reads before taken writes then_writes fault) asks says stopped in
+    stopped-asked words run.0 given after reads then_reads before taken writes then_writes (Err fault) run.1 run.2
+
+-- what holds of every command holds of the run on what the words say
+pub any-run : (first second : List ℕ) (tape : TapeForm) (P : Command → Type 0) → AreElements first → AreElements second → IsTapeForm tape
+    → ((command : Command) → P command) → OfRun first second tape P
+any-run first second (tape_.Seed seed) P one two said all = (one.0, two.0, Seed seed, one.1, two.1, refl, all (Run one.0 two.0 (Seed seed)))
+any-run first second (tape_.Elements word) P one two said all =
+    (one.0, two.0, Tape said.0.0, one.1, two.1, (said.0.0, said.0.1, refl), all (Run one.0 two.0 (Tape said.0.0)))
+
+-- so a run that wants memory before it reads is one that stopped
+pub run-wanting : (first second : List ℕ) (tape : TapeForm) (given after : Option (List ℕ)) (reads then_reads : ℕ) (before taken : Option (List ℕ)) (writes then_writes : ℕ) (r : Result (Unit {0}) Fault) (why : Fault)
+    → AreElements first → AreElements second → IsTapeForm tape → r ≡ Err why → why ≡ fault_.Memory
+    → IfErr r (λ fault. OfRun first second tape (λ command. StoppedAt command given after reads then_reads before taken writes then_writes fault))
+run-wanting first second tape given after reads then_reads before taken writes then_writes r why one two said is wanted =
+    let P = λ (fault : Fault). OfRun first second tape (λ command. StoppedAt command given after reads then_reads before taken writes then_writes fault) in
+    subst (λ (s : Result (Unit {0}) Fault). IfErr s P) (sym is)
+    (subst P (sym wanted) (any-run first second tape (λ command. StoppedAt command given after reads then_reads before taken writes then_writes fault_.Memory) one two said (λ command. tt)))
 
 module _ (differ : TextsDiffer) where
   -- a fault other than want of memory is the one that the bytes decide

@@ -4,7 +4,7 @@ use Rattle.std.specs.Prelude.{option_map}
 use Rattle.mk_base.specs.Streams.{ReadsAll}
 use Rattle.mk_top.specs.declared.fault.Fault.{Fault}
 use Rattle.mk_top.specs.declared.fault.Fault.TheVariants as fault_
-use Rattle.mk_top.specs.Words.{Command, Compile, Check, Eval}
+use Rattle.mk_top.specs.Words.{Command, Compile, Check, Eval, Run, GivenTape}
 use Rattle.mk_code.specs.Listing.{Listing}
 use Rattle.mk_code.specs.Private.{Private}
 use Rattle.mk_rules.specs.Claimed.{Claimed}
@@ -23,7 +23,11 @@ use Rattle.mk_eval.specs.Refusals.{refusal}
 use Rattle.mk_ast.specs.declared.tree.Program.{Program as Tree}
 use Rattle.mk_ast.specs.declared.refusal.SourceRefusal.{SourceRefusal}
 use Rattle.mk_ast.specs.declared.refusal.SourceRefusal.TheVariants as refused
-use Rattle.mk_top.specs.Faults.{fault_of_source, fault_of_eval, status_of}
+use Rattle.mk_run.specs.declared.refusal.RunRefusal.{RunRefusal}
+use Rattle.mk_run.specs.declared.refusal.RunRefusal.TheVariants as run
+use Rattle.mk_code.specs.Private.{masked_trace}
+use Rattle.mk_top.specs.Runs.{Runs, tape_of, whole_refusal, run_text}
+use Rattle.mk_top.specs.Faults.{fault_of_source, fault_of_eval, fault_of_run, status_of}
 use Rattle.mk_top.specs.Running.{NotMade, NoText}
 use Rattle.mk_top.proofs.Causes.{IsLimitOrIndex, cause-kind}
 use Rattle.mk_top.proofs.Texts.{short-text}
@@ -119,6 +123,32 @@ pub checked-given : {E : Type 0} (given after : Option (List ℕ)) (bytes : List
 checked-given given after bytes (Ok done) read checks = checks-given given after bytes read checks
 checked-given given after bytes (Err e) read checks = tt
 
+-- the same of a bundle that was run
+runs-given : (given after : Option (List ℕ)) (bytes written ps ss : List ℕ) (tape : GivenTape)
+    → IfSome given (λ rest. ReadsAll rest bytes after) → Runs ps ss tape (Some bytes) written → Runs ps ss tape given written
+runs-given None after bytes written ps ss tape read c = record {
+  code = c.code;
+  cert = c.cert;
+  pair = c.pair;
+  bundle = tt;
+  taken = c.taken;
+  bytes = c.bytes;
+}
+runs-given (Some rest) after bytes written ps ss tape read c = record {
+  code = c.code;
+  cert = c.cert;
+  pair = c.pair;
+  bundle = sym read.whole ∙ c.bundle;
+  taken = c.taken;
+  bytes = c.bytes;
+}
+
+-- the same of an answer
+pub ran-given : {E : Type 0} (given after : Option (List ℕ)) (bytes ps ss : List ℕ) (tape : GivenTape) (r : Result (List ℕ) E)
+    → IfSome given (λ rest. ReadsAll rest bytes after) → IfOk r (Runs ps ss tape (Some bytes)) → IfOk r (Runs ps ss tape given)
+ran-given given after bytes ps ss tape (Ok written) read makes = runs-given given after bytes written ps ss tape read makes
+ran-given given after bytes ps ss tape (Err e) read makes = tt
+
 -- what was read within the limit was read to the end
 pub read-given : (given after : Option (List ℕ)) (bytes : List ℕ) (limit : ℕ) → length bytes ≤ limit
     → IfSome given (λ rest. ReadsAll rest bytes after) → ReadWhole limit given after
@@ -142,6 +172,17 @@ answer-of-eval ps ss (Some r) f e = let same : fault_of_eval r ≡ f = cc in sub
     by (eval.Element which index) = tt
     by eval.Memory = tt
 
+-- the fault of a refused run has one of the answers of `run`
+answer-of-run : (ps ss : List ℕ) (tape : GivenTape) (r : Option RunRefusal) (f : Fault) → Some f ≡ option_map fault_of_run r → IsAnswerOf (Run ps ss tape) (status_of f)
+answer-of-run ps ss tape None f e = absurd cc
+answer-of-run ps ss tape (Some r) f e = let same : fault_of_run r ≡ f = cc in subst (λ (g : Fault). IsAnswerOf (Run ps ss tape) (status_of g)) same (by r)
+  where
+    by : (r : RunRefusal) → IsAnswerOf (Run ps ss tape) (status_of (fault_of_run r))
+    by (run.Length given wanted) = tt
+    by (run.Element which index) = tt
+    by (run.TapeShort given wanted) = tt
+    by run.Memory = tt
+
 -- a fault that the bytes decide under a command has one of its answers
 answer-of : (command : Command) (bytes : List ℕ) (fault : Fault) → TextDecides command bytes (Some fault) → IsAnswerOf command (status_of fault)
 answer-of (Compile order) bytes (fault_.Source why) decides = tt
@@ -152,6 +193,8 @@ answer-of Check bytes (fault_.Bundle line) decides = tt
 answer-of Check bytes f decides = absurd decides.4
 answer-of (Eval ps ss) bytes (fault_.Source why) decides = tt
 answer-of (Eval ps ss) bytes f decides = answer-of-eval ps ss (refusal decides.0 ps ss) f decides.3
+answer-of (Run ps ss tape) bytes (fault_.Bundle line) decides = tt
+answer-of (Run ps ss tape) bytes f decides = answer-of-run ps ss tape (whole_refusal decides.0 ps ss (tape_of decides.0 tape)) f decides.4
 
 -- why nothing was made of the text, said of the input
 not_made-given : (command : Command) (given after : Option (List ℕ)) (reads then_reads : ℕ) (bytes : List ℕ) (fault : Fault)
@@ -199,6 +242,30 @@ eval_not_made ps ss bytes tree e is (inr why) = by e why
     by (eval.Length given wanted) h = (tree, is.spelled.spelled, is.typed, sym (ap (option_map fault_of_eval) h))
     by (eval.Element which index) h = (tree, is.spelled.spelled, is.typed, sym (ap (option_map fault_of_eval) h))
     by eval.Memory h = tt
+
+-- why the run of the code of a bundle is refused is why nothing is made of the bundle
+pub run_not_made : (ps ss : List ℕ) (tape : GivenTape) (bytes : List ℕ) (code : Listing) (cert : Claimed) (e : RunRefusal) → IsPair code cert → bytes ≡ text code cert
+    → (e ≡ run.Memory) ⊎ (whole_refusal code ps ss (tape_of code tape) ≡ Some e) → NotMade (Run ps ss tape) bytes (fault_of_run e)
+run_not_made ps ss tape bytes code cert e pair is (inl wanted) = subst (λ (x : RunRefusal). NotMade (Run ps ss tape) bytes (fault_of_run x)) (sym wanted) tt
+run_not_made ps ss tape bytes code cert e pair is (inr why) = by e why
+  where
+    by : (x : RunRefusal) → whole_refusal code ps ss (tape_of code tape) ≡ Some x → NotMade (Run ps ss tape) bytes (fault_of_run x)
+    by (run.Length given wanted) h = (code, cert, pair, is, sym (ap (option_map fault_of_run) h))
+    by (run.Element which index) h = (code, cert, pair, is, sym (ap (option_map fault_of_run) h))
+    by (run.TapeShort given wanted) h = (code, cert, pair, is, sym (ap (option_map fault_of_run) h))
+    by run.Memory h = tt
+
+-- the lines of a run of a bundle are those that it promises
+pub runs-made : (ps ss : List ℕ) (tape : GivenTape) (bytes written : List ℕ) (code : Listing) (cert : Claimed) → IsPair code cert → bytes ≡ text code cert
+    → whole_refusal code ps ss (tape_of code tape) ≡ None → written ≡ run_text code (masked_trace code ps ss (tape_of code tape)) → Runs ps ss tape (Some bytes) written
+runs-made ps ss tape bytes written code cert pair is taken lines = record {
+  code = code;
+  cert = cert;
+  pair = pair;
+  bundle = is;
+  taken = taken;
+  bytes = lines;
+}
 
 -- a source was compiled where its code and certificate are what they promise
 pub compiles-made : (order : ℕ) (bytes written : List ℕ) (tree : Tree) (code : Listing) (cert : Claimed)

@@ -1,9 +1,10 @@
 pub mod Cases
 pub mod Causes
-pub mod Maps
 pub mod Texts
 pub mod Commands
 pub mod Given
 pub mod Deciding
 pub mod Ends
 pub mod Digits
+pub mod Taken
+pub mod Lines

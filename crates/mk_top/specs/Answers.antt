@@ -22,7 +22,7 @@ use Rattle.mk_eval.specs.Refusals.{refusal}
 use Rattle.mk_place.specs.Different.{AllDifferButRefreshes}
 use Rattle.mk_compile.specs.Compiled.{IsWithin, IsCertified}
 use Rattle.mk_compile.specs.Correct.{Correct}
-use Rattle.mk_top.specs.Words.{Command, Compile, Check, Eval, elements_word}
+use Rattle.mk_top.specs.Words.{Command, Compile, Check, Eval, Run, GivenTape, elements_word}
 use Rattle.mk_top.specs.declared.status.Status.{Status}
 use Rattle.mk_top.specs.declared.status.Status.TheVariants as status
 use Rattle.mk_top.specs.declared.fault.Fault.{Fault}
@@ -31,13 +31,15 @@ use Rattle.mk_top.specs.declared.fault.SourceFault.TheVariants as source
 use Rattle.mk_top.specs.declared.fault.CheckFault.{CheckFault}
 use Rattle.mk_top.specs.declared.fault.CheckFault.TheVariants as check
 use Rattle.mk_top.specs.Sources.{HasFirstOffence, IsSourceOf, IsNoSource}
-use Rattle.mk_top.specs.Faults.{fault_of_eval, status_of, fault_line}
+use Rattle.mk_top.specs.Faults.{fault_of_eval, fault_of_run, status_of, fault_line}
+use Rattle.mk_top.specs.Runs.{Runs, tape_of, whole_refusal}
 
 -- the most bytes that a command reads: of a source, and of a bundle
 abbrev pub limit_of : Command → ℕ
 limit_of (Compile order) = 1048576
 limit_of Check = 268435456
 limit_of (Eval publics secrets) = 1048576
+limit_of (Run publics secrets tape) = 268435456
 
 -- the output took this whole text, where it tells what it took
 abbrev pub TakesWhole : Option (List ℕ) → List ℕ → Option (List ℕ) → Type 0
@@ -54,16 +56,21 @@ refusal_of (check.Tile instr) = refused.Tile instr
 refusal_of (check.Output index) = refused.Output index
 refusal_of (check.Doubled value block) = refused.Doubled value block
 
--- the answer that a code and certificate decide: the rule accepts them, or this is why they are refused
+-- the answer that a code and certificate decide under `check`: the rule accepts them, or this is why they are refused
 abbrev pub PairDecides : Listing → Claimed → Option Fault → Type 0
 PairDecides code cert None = IsAccepted code cert
 PairDecides code cert (Some (fault.Check why)) = Refuses code cert (refusal_of why)
 PairDecides code cert (Some _) = ⊥
 
--- the answer that a bundle decides: that of its code and certificate, or where it goes wrong as a text
-abbrev pub BundleDecides : List ℕ → Option Fault → Type 0
-BundleDecides bytes (Some (fault.Bundle line)) = NamesFirst line bytes × (IsBundleText bytes → ⊥)
-BundleDecides bytes answer = (code : Listing) × (cert : Claimed) × IsPair code cert × (bytes ≡ text code cert) × PairDecides code cert answer
+-- the answer that they decide under `run`: the first refusal of the run on these inputs, if there is one
+abbrev pub RunDecides : List ℕ → List ℕ → GivenTape → Listing → Claimed → Option Fault → Type 0
+RunDecides publics secrets tape code cert answer = answer ≡ option_map fault_of_run (whole_refusal code publics secrets (tape_of code tape))
+
+-- the answer that a bundle decides, by what a code and certificate decide: that of its own, or where it goes
+-- wrong as a text
+abbrev pub BundleDecides : (Listing → Claimed → Option Fault → Type 0) → List ℕ → Option Fault → Type 0
+BundleDecides decides bytes (Some (fault.Bundle line)) = NamesFirst line bytes × (IsBundleText bytes → ⊥)
+BundleDecides decides bytes answer = (code : Listing) × (cert : Claimed) × IsPair code cert × (bytes ≡ text code cert) × decides code cert answer
 
 -- The answer that a source decides, by what a well typed tree decides: it spells none, and then its first
 -- place where no program can go on; or one with a first offence; or one that is well typed.
@@ -92,8 +99,9 @@ EvalDecides publics secrets tree answer = answer ≡ option_map fault_of_eval (r
 -- the answer that the bytes within the limit decide
 abbrev pub TextDecides : Command → List ℕ → Option Fault → Type 0
 TextDecides (Compile order) bytes answer = SourceDecides (CompileDecides order) bytes answer
-TextDecides Check bytes answer = BundleDecides bytes answer
+TextDecides Check bytes answer = BundleDecides PairDecides bytes answer
 TextDecides (Eval publics secrets) bytes answer = SourceDecides (EvalDecides publics secrets) bytes answer
+TextDecides (Run publics secrets tape) bytes answer = BundleDecides (RunDecides publics secrets tape) bytes answer
 
 -- the answer that the bytes of the input decide under a command: no fault, or this one
 abbrev pub Decides : Command → List ℕ → Option Fault → Type 0
@@ -145,6 +153,7 @@ abbrev pub Makes : Command → Option (List ℕ) → List ℕ → Type 0
 Makes (Compile order) given written = Compiles order given written
 Makes Check given written = Checks given × (written ≡ codes "accepted\n")
 Makes (Eval publics secrets) given written = Evaluates publics secrets given written
+Makes (Run publics secrets tape) given written = Runs publics secrets tape given written
 
 -- Why a command answers a fault. Reading and writing fail only where the input's, the output's count of
 -- faults rose, reading only while no more bytes than the limit came; want of memory is free, and the
@@ -189,6 +198,8 @@ IsAnswerOf Check status.Refused = Unit {0}
 IsAnswerOf Check status.Bundle = Unit {0}
 IsAnswerOf (Eval publics secrets) status.Source = Unit {0}
 IsAnswerOf (Eval publics secrets) status.Inputs = Unit {0}
+IsAnswerOf (Run publics secrets tape) status.Bundle = Unit {0}
+IsAnswerOf (Run publics secrets tape) status.Inputs = Unit {0}
 IsAnswerOf command _ = ⊥
 
 -- the fault's line was told: a prefix of it, where the error output tells what it took, and the whole

@@ -9,6 +9,8 @@ use Rattle.mk_ast.specs.declared.refusal.Limit.{Limit}
 use Rattle.mk_ast.specs.declared.refusal.Limit.TheVariants as limit_
 use Rattle.mk_eval.specs.declared.refusal.EvalRefusal.{EvalRefusal}
 use Rattle.mk_eval.specs.declared.refusal.EvalRefusal.TheVariants as eval
+use Rattle.mk_run.specs.declared.refusal.RunRefusal.{RunRefusal}
+use Rattle.mk_run.specs.declared.refusal.RunRefusal.TheVariants as run
 use Rattle.mk_check.specs.declared.refusal.CheckRefusal.{CheckRefusal}
 use Rattle.mk_check.specs.declared.refusal.CheckRefusal.TheVariants as refused
 use Rattle.mk_bundle.specs.Words.{operand_word}
@@ -63,6 +65,13 @@ fault_of_eval (eval.Large limit) = fault.Source (source.Large limit)
 fault_of_eval (eval.Length given wanted) = fault.Inputs (input.Length given wanted)
 fault_of_eval (eval.Element which index) = fault.Inputs (input.Element which index)
 fault_of_eval eval.Memory = fault.Memory
+
+-- the fault of a refused run
+abbrev pub fault_of_run : RunRefusal → Fault
+fault_of_run (run.Length given wanted) = fault.Inputs (input.Length given wanted)
+fault_of_run (run.Element which index) = fault.Inputs (input.Element which index)
+fault_of_run (run.TapeShort given wanted) = fault.Inputs (input.TapeShort given wanted)
+fault_of_run run.Memory = fault.Memory
 
 -- the fault of a refused code and certificate
 abbrev pub fault_of_check : CheckRefusal → Fault
@@ -121,6 +130,7 @@ element_head which_.Tape = codes "52 element tape "
 abbrev pub input_line : InputFault → List ℕ
 input_line (input.Length given wanted) = codes "51 length " ++ decimal given ++ codes " " ++ decimal wanted ++ 10 ∷ []
 input_line (input.Element which index) = numbered_line (element_head which) index
+input_line (input.TapeShort given wanted) = codes "53 tape " ++ decimal given ++ codes " " ++ decimal wanted ++ 10 ∷ []
 
 -- the line of a code and certificate that are refused
 abbrev pub check_line : CheckFault → List ℕ

@@ -4,7 +4,7 @@ ghost use Rattle.mk_top.specs.Answers.{Checks, ReadWhole, limit_of};
 ghost use Rattle.mk_top.specs.Running.{NotMade, NoText};
 
 use crate::fault::Fault;
-use crate::reading::whole_text;
+use crate::reading::{BUNDLE_LIMIT, whole_text};
 use mk_base::Source;
 use mk_bundle::read_bundle;
 use mk_check::check;
@@ -20,9 +20,6 @@ fn verdict_of(alloc: Global, text: &[u8]) -> Result<(), Fault>
     check(alloc, &bundle.code, &bundle.cert)?;
     Ok(())
 }
-
-/// The most bytes of a bundle text.
-const BUNDLE_LIMIT: u32 = 268_435_456;
 
 /// Reads a bundle to its end, and checks it.
 pub(crate) fn check_bundle<S: Source>(alloc: Global, src: &mut S) -> Result<(), Fault>

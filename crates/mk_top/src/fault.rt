@@ -10,6 +10,7 @@ use mk_base::{Memory, Place, Which};
 use mk_bundle::BundleRefusal;
 use mk_check::CheckRefusal;
 use mk_eval::EvalRefusal;
+use mk_run::RunRefusal;
 use mk_ssa::Operand;
 
 /// Why a source is refused, with the place where.
@@ -40,6 +41,8 @@ pub enum InputFault {
     Length { given: u32, wanted: u32 },
     /// The input of this number, from 0, is no element of the field.
     Element { which: Which, index: u32 },
+    /// The whole tape has so many elements, and at least so many are wanted.
+    TapeShort { given: u32, wanted: u32 },
 }
 
 /// Why a code with its certificate is refused.
@@ -167,6 +170,28 @@ impl From<EvalRefusal> for Fault {
     }
 }
 
+impl From<RunRefusal> for Fault {
+    ghost use Rattle.std.specs.Prelude.{◌≡◌};
+    ghost use Rattle.mk_top.specs.Faults.{fault_of_run};
+
+    ghost from_gives = { λ refusal fault. fault ≡ fault_of_run refusal };
+
+    fn from(refusal: RunRefusal) -> Fault {
+        match refusal {
+            RunRefusal::Length { given, wanted } => {
+                Fault::Inputs(InputFault::Length { given, wanted })
+            }
+            RunRefusal::Element { which, index } => {
+                Fault::Inputs(InputFault::Element { which, index })
+            }
+            RunRefusal::TapeShort { given, wanted } => {
+                Fault::Inputs(InputFault::TapeShort { given, wanted })
+            }
+            RunRefusal::Memory => Fault::Memory,
+        }
+    }
+}
+
 impl SourceFault {
     /// Its line, with the line feed.
     fn line(self) -> FaultLine
@@ -206,6 +231,7 @@ impl InputFault {
         match self {
             InputFault::Length { given, wanted } => paired("51 length ", given, " ", wanted),
             InputFault::Element { which, index } => numbered(element_head(which), index),
+            InputFault::TapeShort { given, wanted } => paired("53 tape ", given, " ", wanted),
         }
     }
 }

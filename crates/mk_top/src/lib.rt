@@ -1,4 +1,4 @@
-//! The top call: it carries out the command that its words ask for, `compile`, `check` or `eval`, from the
+//! The top call: it carries out the command that its words ask for, `compile`, `check`, `eval` or `run`, from the
 //! bytes that are read to the bytes that are written, and promises what the answer means.
 #![tactic(auto)]
 
@@ -6,7 +6,10 @@ mod bundle;
 mod command;
 mod elements;
 mod fault;
+mod inputs;
+mod outputs;
 mod reading;
+mod runs;
 mod source;
 mod status;
 mod top;

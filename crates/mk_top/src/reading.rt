@@ -6,6 +6,9 @@ use crate::fault::Fault;
 use mk_base::{Bytes, ReadRefusal, Source, read_all};
 use std::alloc::Global;
 
+/// The most bytes of a bundle text.
+pub(crate) const BUNDLE_LIMIT: u32 = 268_435_456;
+
 /// Reads the whole of a text, at most `limit` bytes.
 pub(crate) fn whole_text<S: Source>(alloc: Global, src: &mut S, limit: u32) -> Result<Bytes, Fault>
     ensures read { IfOk result (λ bytes. IfSome (S.left src.old) (λ rest. ReadsAll rest bytes (S.left src.new))) }

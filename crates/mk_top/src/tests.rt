@@ -5,6 +5,7 @@ ghost use Rattle.std.specs.Prelude.{None};
 mod bundles;
 mod compilations;
 mod evaluations;
+mod runs;
 mod sources;
 
 use super::*;

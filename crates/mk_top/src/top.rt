@@ -1,16 +1,18 @@
 ghost use Rattle.std.specs.Prelude.{◌≡◌, ◌≢◌, ◌≤◌, ◌<◌, ◌^◌, ◌⊎◌, ℕ, List, Option, Some, None, [], codes, IfSome, IfOk, IfErr, OnOk, length};
 ghost use Rattle.mk_base.specs.Outside.{Rose};
 ghost use Rattle.mk_top.specs.declared.fault.Fault.{Fault};
-ghost use Rattle.mk_top.specs.Words.{Command, Compile, Check, Eval, SaysElements, Asks, IsForm, IsNoForm};
-ghost use Rattle.mk_top.specs.Forms.{AreElements, OfElements};
+ghost use Rattle.mk_top.specs.Words.{Command, Compile, Check, Eval, Run, GivenTape, SaysElements, Asks, IsForm, IsNoForm};
+ghost use Rattle.mk_top.specs.Forms.{AreElements, IsTapeForm, IsShort, OfElements, OfRun, given_of};
 ghost use Rattle.mk_top.specs.Faults.{status_of, fault_line};
 ghost use Rattle.mk_top.specs.Answers.{Compiles, Checks, Evaluates, Makes, Decides, Because, TakesWhole, TakesSome, Tells, answer_status, IsOrMemory, ReadsToEnd, ReadWhole, limit_of, WritesNothing, IsAnswerOf};
+ghost use Rattle.mk_top.specs.Runs.{Runs};
 ghost use Rattle.mk_top.specs.Running.{Finished, Cut, StoppedAt, Stopped};
 
 use crate::bundle::check_bundle;
-use crate::command::{Form, form_asked};
+use crate::command::{Form, TapeForm, form_asked};
 use crate::elements::elements_of;
 use crate::fault::Fault;
+use crate::runs::{WholeTape, run_bundle};
 use crate::source::{compiled_text, evaluated_text};
 use crate::status::Status;
 use mk_base::{Sink, Source, Words, write_all};
@@ -116,6 +118,72 @@ fn eval_words_to<S: Source, O: Sink>(
     eval_to(alloc, publics.as_slice(), secrets.as_slice(), src, out)
 }
 
+/// Reads a bundle, and writes the lines of the outputs of its run.
+fn run_to<S: Source, O: Sink>(
+    alloc: Global,
+    publics: &[u8],
+    secrets: &[u8],
+    tape: WholeTape<'_>,
+    src: &mut S,
+    out: &mut O,
+) -> Result<(), Fault>
+    requires publics { length publics.now < 2 ^ 32 }
+    requires secrets { length secrets.now < 2 ^ 32 }
+    requires tape { IsShort tape }
+    ensures finished { OnOk result (Finished (Run publics.now secrets.now (given_of tape.entry)) (S.left src.old) (S.left src.new) (O.taken out.old) (O.taken out.new)) }
+    ensures stopped { IfErr result (StoppedAt (Run publics.now secrets.now (given_of tape.entry))
+        (S.left src.old) (S.left src.new) (S.faults src.old) (S.faults src.new)
+        (O.taken out.old) (O.taken out.new) (O.faults out.old) (O.faults out.new)) }
+    ensures unwritten { IfErr result (λ fault. fault ≢ Fault.WriteFault → out.new ≡ out.old) }
+    ensures reads { S.faults src.old ≤ S.faults src.new }
+    ensures writes { O.faults out.old ≤ O.faults out.new }
+{
+    let text = run_bundle(alloc, src, publics, secrets, tape)?;
+    put(out, text.as_slice())
+}
+
+/// The same on the elements that two words say, with the tape that the words give.
+fn run_words_to<S: Source, O: Sink>(
+    alloc: Global,
+    publics: &[u8],
+    secrets: &[u8],
+    tape: TapeForm<'_>,
+    src: &mut S,
+    out: &mut O,
+) -> Result<(), Fault>
+    requires publics { AreElements publics.now × (length publics.now < 2 ^ 32) }
+    requires secrets { AreElements secrets.now × (length secrets.now < 2 ^ 32) }
+    requires tape { IsTapeForm tape }
+    ensures finished { OnOk result (OfRun publics.now secrets.now tape.entry (λ command. Finished command (S.left src.old) (S.left src.new) (O.taken out.old) (O.taken out.new))) }
+    ensures stopped { IfErr result (λ fault. OfRun publics.now secrets.now tape.entry (λ command. StoppedAt command
+        (S.left src.old) (S.left src.new) (S.faults src.old) (S.faults src.new)
+        (O.taken out.old) (O.taken out.new) (O.faults out.old) (O.faults out.new) fault)) }
+    ensures unwritten { IfErr result (λ fault. fault ≢ Fault.WriteFault → out.new ≡ out.old) }
+    ensures reads { S.faults src.old ≤ S.faults src.new }
+    ensures writes { O.faults out.old ≤ O.faults out.new }
+{
+    let publics = elements_of(alloc, publics)?;
+    let secrets = elements_of(alloc, secrets)?;
+    let (publics, secrets) = (publics.as_slice(), secrets.as_slice());
+    match tape {
+        TapeForm::Seed { seed } => {
+            run_to(alloc, publics, secrets, WholeTape::Seed { seed }, src, out)
+        }
+        TapeForm::Elements { word } => {
+            let elements = elements_of(alloc, word)?;
+            let elements = elements.as_slice();
+            run_to(
+                alloc,
+                publics,
+                secrets,
+                WholeTape::Elements { elements },
+                src,
+                out,
+            )
+        }
+    }
+}
+
 /// Carries out what the words ask for.
 fn run<S: Source, O: Sink>(
     alloc: Global,
@@ -140,6 +208,13 @@ fn run<S: Source, O: Sink>(
         Some(Form::Eval { publics, secrets }) => {
             eval_words_to(alloc, publics, secrets, src, out)
         }
+        Some(
+            Form::Run {
+                publics,
+                secrets,
+                tape,
+            },
+        ) => run_words_to(alloc, publics, secrets, tape, src, out),
     }
 }
 
@@ -148,9 +223,12 @@ fn run<S: Source, O: Sink>(
 ///
 /// The forms of the words are `compile T`, T being one digit from 1 to 8, which reads a source of at
 /// most 1,048,576 bytes and writes the bundle text of its masked code at order T; `check`, which reads a
-/// bundle text of at most 268,435,456 bytes and writes `accepted` and a line feed; and `eval P S`, which
+/// bundle text of at most 268,435,456 bytes and writes `accepted` and a line feed; `eval P S`, which
 /// reads a source and writes its outputs on the public inputs P and the secrets S as one word of elements
-/// and a line feed. A word of elements is `-` for none, or two hexadecimal digits of either case for each.
+/// and a line feed; and `run P S seed X` and `run P S tape X`, which read a bundle and write, for each output
+/// of its code on P and S, a line with its number, the word of its shares and the word of their sum. The X
+/// of a seed is 64 hexadecimal digits, and that of a tape is its elements. A word of elements is `-` for none,
+/// or two hexadecimal digits of either case for each.
 /// All memory is taken before the first byte is written.
 pub fn mask_main<S: Source, O: Sink, E: Sink>(
     alloc: Global,
@@ -175,6 +253,10 @@ pub fn mask_main<S: Source, O: Sink, E: Sink>(
     // What `eval` wrote is the result of the program on the inputs.
     ensures evaluated { (publics secrets : List ℕ) → Asks words.now (Eval publics secrets) → result ≡ Status.Done
         → (written : List ℕ) × Evaluates publics secrets (S.left src.old) written × TakesWhole (O.taken out.old) written (O.taken out.new) }
+
+    // What `run` wrote are the shares and values of the outputs of one run of the code on the inputs and the tape.
+    ensures ran { (publics secrets : List ℕ) (tape : GivenTape) → Asks words.now (Run publics secrets tape) → result ≡ Status.Done
+        → (written : List ℕ) × Runs publics secrets tape (S.left src.old) written × TakesWhole (O.taken out.old) written (O.taken out.new) }
 
     // Where the output failed, it took the command's text as far as a prefix.
     ensures cut { (command : Command) → Asks words.now command → result ≡ Status.WriteFault

@@ -1,0 +1,99 @@
+//! The lines of a code's outputs, by the entries of a trace.
+
+ghost use Rattle.std.specs.Prelude.{◌≡◌, ◌++◌, ◌<◌, ◌/◌, OnOk, IfOk, length, string_bytes};
+ghost use Rattle.mk_field.specs.Sharing.{field_sum};
+ghost use Rattle.mk_code.specs.Counting.{AllBelow};
+ghost use Rattle.mk_code.specs.Listing.{trace_len};
+ghost use Rattle.mk_code.specs.Private.{observation};
+ghost use Rattle.mk_top.specs.Words.{elements_word};
+ghost use Rattle.mk_top.specs.Runs.{output_line, output_lines, run_text};
+
+use mk_base::{Bytes, Items, Memory};
+use mk_code::Code;
+use std::alloc::Global;
+
+/// The sum of some elements.
+fn sum_of(elements: &[u8]) -> u8
+    ensures { result ≡ field_sum elements.now }
+{
+    let mut sum = 0;
+    for element in elements {
+        sum ^= *element;
+    }
+    sum
+}
+
+/// Appends the word of some elements.
+fn push_word(alloc: Global, text: &mut String, elements: &[u8]) -> Result<(), Memory>
+    ensures { OnOk result (string_bytes text.new ≡ string_bytes text.old ++ elements_word elements.now) }
+{
+    if elements.is_empty() {
+        text.push_str("-")?;
+        return Ok(());
+    }
+    let digits = hex::encode(alloc, elements)?;
+    text.push_str(digits.as_str())?;
+    Ok(())
+}
+
+/// Appends the line of an output.
+fn push_output(alloc: Global, text: &mut String, number: usize, shares: &[u8]) -> Result<(), Memory>
+    ensures { OnOk result (string_bytes text.new ≡ string_bytes text.old ++ output_line number shares.now) }
+{
+    write!(text, "{number} ")?;
+    push_word(alloc, text, shares)?;
+    text.push_str(" ")?;
+    push_word(alloc, text, &[sum_of(shares)])?;
+    text.push_str("\n")?;
+    Ok(())
+}
+
+/// Appends the lines of the outputs, each of which has the next `count` of the shares.
+fn push_outputs(alloc: Global, text: &mut String, count: usize, shares: &[u8]) -> Result<(), Memory>
+    requires { 0 < count }
+    ensures { OnOk result (string_bytes text.new ≡ string_bytes text.old ++ output_lines count 0 (length shares.now / count) shares.now) }
+{
+    let mut rest = shares;
+    for number in 0..shares.len() / count {
+        let (first, behind) = rest.split_at(count);
+        push_output(alloc, text, number, first)?;
+        rest = behind;
+    }
+    Ok(())
+}
+
+/// The entries of a trace at these places.
+fn entries_at(alloc: Global, places: &[u32], entries: &[u8]) -> Result<Bytes, Memory>
+    requires { AllBelow (length entries.now) places.now }
+    ensures { IfOk result (λ seen. seen ≡ observation places.now entries.now) }
+{
+    let mut seen = Items::new(alloc);
+    for place in places {
+        seen.push(entries[*place as usize])?;
+    }
+    Ok(seen)
+}
+
+/// The lines of the outputs of a code, whose shares are entries of this trace.
+pub(crate) fn outputs_text(alloc: Global, code: &Code, entries: &[u8]) -> Result<Bytes, Memory>
+    requires { length entries.now ≡ trace_len code.now }
+    ensures { IfOk result (λ bytes. bytes ≡ run_text code.now entries.now) }
+{
+    let _fits = code.field();
+    let shares = entries_at(alloc, code.outs().as_slice(), entries)?;
+    let mut text = String::new(alloc);
+    let count = usize::from(code.order()) + 1;
+    push_outputs(alloc, &mut text, count, shares.as_slice())?;
+    bytes_of(text)
+}
+
+/// The bytes of a text. No list has memory for 2^32 bytes.
+fn bytes_of(text: String) -> Result<Bytes, Memory>
+    ensures { IfOk result (λ bytes. bytes ≡ string_bytes text) }
+{
+    let bytes = text.into_bytes();
+    if bytes.len() > u32::MAX as usize {
+        return Err(Memory);
+    }
+    Ok(Items::from_vec(bytes))
+}

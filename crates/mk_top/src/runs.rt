@@ -1,0 +1,135 @@
+//! Runs of the code of a bundle.
+
+ghost use Rattle.std.specs.Prelude.{◌≡◌, ◌⊎◌, ◌≤◌, ◌<◌, ◌^◌, Some, None, IfOk, IfErr, length};
+ghost use Rattle.mk_code.specs.Listing.{trace_len};
+ghost use Rattle.mk_code.specs.Private.{masked_trace};
+ghost use Rattle.mk_run.specs.declared.refusal.RunRefusal.TheVariants as refusal_;
+ghost use Rattle.mk_top.specs.Words.{Run};
+ghost use Rattle.mk_top.specs.Forms.{given_of, IsShort};
+ghost use Rattle.mk_top.specs.Runs.{Runs, tape_of, whole_refusal, run_text};
+ghost use Rattle.mk_top.specs.Answers.{ReadWhole, limit_of};
+ghost use Rattle.mk_top.specs.Running.{NotMade, NoText};
+
+use crate::fault::Fault;
+use crate::inputs::{check_whole, spent_by, tape_len_of};
+use crate::outputs::outputs_text;
+use crate::reading::{BUNDLE_LIMIT, whole_text};
+use mk_base::{Bytes, Source};
+use mk_bundle::read_bundle;
+use mk_code::Code;
+use mk_run::{RunRefusal, Trace, encode_all, run_code, tape_from_seed};
+use std::alloc::Global;
+
+/// Where the whole tape of a run comes from.
+#[derive(Clone, Copy)]
+pub(crate) enum WholeTape<'a> {
+    /// From a seed.
+    Seed { seed: [u8; 32] },
+    /// These are its elements.
+    Elements { elements: &'a [u8] },
+}
+
+/// The trace of a run whose secrets are encoded by the first elements of the whole tape, and which takes its
+/// random elements from the rest.
+fn masked_run(
+    alloc: Global,
+    code: &Code,
+    publics: &[u8],
+    secrets: &[u8],
+    tape: &[u8],
+) -> Result<Trace, RunRefusal>
+    requires publics { length publics.now < 2 ^ 32 }
+    requires secrets { length secrets.now < 2 ^ 32 }
+    requires tape { length tape.now < 2 ^ 32 }
+    ensures trace { IfOk result (λ entries. entries ≡ masked_trace code.now publics.now secrets.now tape.now) }
+    ensures count { IfOk result (λ entries. length entries ≡ trace_len code.now) }
+    ensures taken { IfOk result (λ _. whole_refusal code.now publics.now secrets.now tape.now ≡ None) }
+    ensures refused { IfErr result (λ e. (e ≡ refusal_.Memory) ⊎ (whole_refusal code.now publics.now secrets.now tape.now ≡ Some e)) }
+{
+    check_whole(code, publics, secrets, tape)?;
+    let (first, rest) = tape.split_at(spent_by(code) as usize);
+    let shares = encode_all(alloc, code, secrets, first)?;
+    run_code(alloc, code, publics, shares.as_slice(), rest)
+}
+
+/// The lines of the outputs of a run with this whole tape.
+fn text_on(
+    alloc: Global,
+    code: &Code,
+    publics: &[u8],
+    secrets: &[u8],
+    tape: &[u8],
+) -> Result<Bytes, RunRefusal>
+    requires publics { length publics.now < 2 ^ 32 }
+    requires secrets { length secrets.now < 2 ^ 32 }
+    requires tape { length tape.now < 2 ^ 32 }
+    ensures text { IfOk result (λ bytes. bytes ≡ run_text code.now (masked_trace code.now publics.now secrets.now tape.now)) }
+    ensures taken { IfOk result (λ _. whole_refusal code.now publics.now secrets.now tape.now ≡ None) }
+    ensures refused { IfErr result (λ e. (e ≡ refusal_.Memory) ⊎ (whole_refusal code.now publics.now secrets.now tape.now ≡ Some e)) }
+{
+    let entries = masked_run(alloc, code, publics, secrets, tape)?;
+    Ok(outputs_text(alloc, code, entries.as_slice())?)
+}
+
+/// The same, wherever the tape comes from.
+fn text_of_run(
+    alloc: Global,
+    code: &Code,
+    publics: &[u8],
+    secrets: &[u8],
+    tape: WholeTape<'_>,
+) -> Result<Bytes, RunRefusal>
+    requires publics { length publics.now < 2 ^ 32 }
+    requires secrets { length secrets.now < 2 ^ 32 }
+    requires tape { IsShort tape }
+    ensures text { IfOk result (λ bytes. bytes ≡ run_text code.now (masked_trace code.now publics.now secrets.now (tape_of code.now (given_of tape.entry)))) }
+    ensures taken { IfOk result (λ _. whole_refusal code.now publics.now secrets.now (tape_of code.now (given_of tape.entry)) ≡ None) }
+    ensures refused { IfErr result (λ e. (e ≡ refusal_.Memory) ⊎ (whole_refusal code.now publics.now secrets.now (tape_of code.now (given_of tape.entry)) ≡ Some e)) }
+{
+    match tape {
+        WholeTape::Seed { seed } => {
+            let elements = tape_from_seed(alloc, code.field(), &seed, tape_len_of(code))?;
+            text_on(alloc, code, publics, secrets, elements.as_slice())
+        }
+        WholeTape::Elements { elements } => text_on(alloc, code, publics, secrets, elements),
+    }
+}
+
+/// The lines of the outputs of a run of the bundle that a text spells.
+fn run_of(
+    alloc: Global,
+    text: &[u8],
+    publics: &[u8],
+    secrets: &[u8],
+    tape: WholeTape<'_>,
+) -> Result<Bytes, Fault>
+    requires within { length text.now ≤ 268435456 }
+    requires publics { length publics.now < 2 ^ 32 }
+    requires secrets { length secrets.now < 2 ^ 32 }
+    requires tape { IsShort tape }
+    ensures runs { IfOk result (Runs publics.now secrets.now (given_of tape.entry) (Some text.now)) }
+    ensures fault { IfErr result (NotMade (Run publics.now secrets.now (given_of tape.entry)) text.now) }
+{
+    let bundle = read_bundle(alloc, text)?;
+    Ok(text_of_run(alloc, &bundle.code, publics, secrets, tape)?)
+}
+
+/// Reads a bundle to its end, and answers the lines of the outputs of its run.
+pub(crate) fn run_bundle<S: Source>(
+    alloc: Global,
+    src: &mut S,
+    publics: &[u8],
+    secrets: &[u8],
+    tape: WholeTape<'_>,
+) -> Result<Bytes, Fault>
+    requires publics { length publics.now < 2 ^ 32 }
+    requires secrets { length secrets.now < 2 ^ 32 }
+    requires tape { IsShort tape }
+    ensures runs { IfOk result (Runs publics.now secrets.now (given_of tape.entry) (S.left src.old)) }
+    ensures read { IfOk result (λ _. ReadWhole (limit_of (Run publics.now secrets.now (given_of tape.entry))) (S.left src.old) (S.left src.new)) }
+    ensures fault { IfErr result (NoText (Run publics.now secrets.now (given_of tape.entry)) (S.left src.old) (S.left src.new) (S.faults src.old) (S.faults src.new)) }
+    ensures never_falls { S.faults src.old ≤ S.faults src.new }
+{
+    let text = whole_text(alloc, src, BUNDLE_LIMIT)?;
+    run_of(alloc, text.as_slice(), publics, secrets, tape)
+}
