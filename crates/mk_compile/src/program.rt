@@ -32,6 +32,9 @@ pub fn compile(alloc: Global, p: &Typed, order: u8) -> Result<Bundle, SourceRefu
     // From all shares and all tapes the code gives shares of the program's result.
     ensures correct { IfOk result (λ b. Correct p.now order b.code) }
 
+    // Its maps are the program's, in order of declaration.
+    ensures maps { IfOk result (λ b. b.code.maps ≡ maps_of p.now.decls) }
+
     // The certificate is the program's, the rule accepts the code with it, and the code is private.
     ensures certified { IfOk result (λ b. IsCertified p.now b.cert) }
     ensures accepted { IfOk result (λ b. IsAccepted b.code b.cert) }

@@ -1,5 +1,7 @@
 -- The bundle is that of the placed certificate.
 use Rattle.std.proofs.Common.{length, arith, ap, subst, sym, ◌∙◌}
+use Rattle.mk_code.specs.Listing.{Listing}
+use Rattle.mk_ssa.specs.Values.{Values}
 use Rattle.mk_rules.specs.Claimed.{Claimed}
 use Rattle.mk_rules.specs.Wired.{Wired}
 use Rattle.mk_place.specs.Uses.{plain}
@@ -36,6 +38,10 @@ returns-clause-correct c =
     c.in_ok-bundle.bundle.code
     (c.in_ok-bundle.ensures.code ∙ ap (code_of (bare c.in_ok-values.values.field c.args.order c.in_ok-values.values.secrets c.in_ok-values.values.publics c.in_ok-values.values.maps)) (sym c.in_ok-bundle.ensures.cert))
     c.in_ok-bundle.ensures.images c.in_ok-bundle.ensures.accepted
+
+pub returns-clause-maps : goal.returns-clause-maps
+returns-clause-maps c =
+    ap (λ (x : Listing). x.maps) c.in_ok-bundle.ensures.code ∙ c.in_ok-values.ensures.maps ∙ ap (λ (v : Values). v.maps) c.in_ok-unrolled.ensures.values
 
 pub returns-clause-different : goal.returns-clause-different
 returns-clause-different c =
