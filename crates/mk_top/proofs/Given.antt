@@ -11,6 +11,7 @@ use Rattle.mk_rules.specs.Claimed.{Claimed}
 use Rattle.mk_bundle.specs.Text.{text}
 use Rattle.mk_bundle.specs.Pairs.{IsPair}
 use Rattle.mk_rules.specs.Accepts.{IsAccepted}
+use Rattle.mk_types.specs.Elements.{maps_of}
 use Rattle.mk_unroll.specs.Causes.{Cause}
 use Rattle.mk_place.specs.Different.{AllDifferButRefreshes}
 use Rattle.mk_compile.specs.Compiled.{IsWithin, IsCertified}
@@ -40,10 +41,12 @@ compiles-given None after bytes written order read c = record {
   code = c.code;
   cert = c.cert;
   source = tt;
+  typed = c.typed;
   within = c.within;
   pair = c.pair;
   bytes = c.bytes;
   correct = c.correct;
+  maps = c.maps;
   private = c.private;
   certified = c.certified;
   different = c.different;
@@ -55,10 +58,12 @@ compiles-given (Some rest) after bytes written order read c = record {
   code = c.code;
   cert = c.cert;
   source = subst (λ (bs : List ℕ). IsSourceOf bs c.tree) read.whole c.source;
+  typed = c.typed;
   within = c.within;
   pair = c.pair;
   bytes = c.bytes;
   correct = c.correct;
+  maps = c.maps;
   private = c.private;
   certified = c.certified;
   different = c.different;
@@ -269,17 +274,19 @@ runs-made ps ss tape bytes written code cert pair is taken lines = record {
 
 -- a source was compiled where its code and certificate are what they promise
 pub compiles-made : (order : ℕ) (bytes written : List ℕ) (tree : Tree) (code : Listing) (cert : Claimed)
-    → IsSourceOf bytes tree → IsWithin tree order → Correct tree order code → Private code → IsCertified tree cert → AllDifferButRefreshes cert.blocks → IsAccepted code cert
+    → IsSourceOf bytes tree → IsWithin tree order → Correct tree order code → code.maps ≡ maps_of tree.decls → Private code → IsCertified tree cert → AllDifferButRefreshes cert.blocks → IsAccepted code cert
     → IsPair code cert → written ≡ text code cert → Compiles order (Some bytes) written
-compiles-made order bytes written tree code cert source within correct private certified different accepted pair same = record {
+compiles-made order bytes written tree code cert source within correct maps private certified different accepted pair same = record {
   tree = tree;
   code = code;
   cert = cert;
   source = source;
+  typed = source.typed;
   within = within;
   pair = pair;
   bytes = same;
   correct = correct;
+  maps = maps;
   private = private;
   certified = certified;
   different = different;

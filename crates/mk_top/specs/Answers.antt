@@ -16,6 +16,7 @@ use Rattle.mk_ast.specs.declared.refusal.SourceRefusal.TheVariants as refusal_
 use Rattle.mk_ast.specs.Spells.{Spells, IsRefusedAt}
 use Rattle.mk_types.specs.declared.offence.OffenceKind.TheVariants as kind_
 use Rattle.mk_types.specs.Offences.{IsWellTyped}
+use Rattle.mk_types.specs.Elements.{maps_of}
 use Rattle.mk_types.specs.Meaning.{result}
 use Rattle.mk_unroll.specs.Causes.{Cause}
 use Rattle.mk_eval.specs.Refusals.{refusal}
@@ -110,18 +111,20 @@ Decides command bytes answer = (length bytes ≤ limit_of command) × TextDecide
 
 -- A source, given where the input tells its bytes, was compiled at this order to this text: the bytes
 -- spell one tree, which is well typed and within the limits, and the text is that of one code and certificate.
--- From every sharing of the secrets and every random tape the code gives a sharing of the tree's result. The code
--- is private. The certificate is the tree's, and apart from refreshes its blocks differ. The rule accepts the
+-- From every sharing of the secrets and every random tape the code gives a sharing of the tree's result, and it has
+-- the tree's maps. The code is private. The certificate is the tree's, and apart from refreshes its blocks differ. The rule accepts the
 -- code with it, and the bytes of the text, which are within the limit of a bundle, decide that `check` has no fault.
 pub record Compiles (order : ℕ) (given : Option (List ℕ)) (written : List ℕ) : Type 0 where
   pub tree : Tree
   pub code : Listing
   pub cert : Claimed
   pub source : IfSome given (λ bytes. IsSourceOf bytes tree)
+  pub typed : IsWellTyped tree
   pub within : IsWithin tree order
   pub pair : IsPair code cert
   pub bytes : written ≡ text code cert
   pub correct : Correct tree order code
+  pub maps : code.maps ≡ maps_of tree.decls
   pub private : Private code
   pub certified : IsCertified tree cert
   pub different : AllDifferButRefreshes cert.blocks

@@ -143,6 +143,10 @@ fn a_program_is_refused_past_its_limits(rt: HostRuntime) -> Result<(), Memory> {
             "field gf2;\nfor i in 0..65535 {\nfor j in 0..65535 {\n}\n}\n",
             "38 large work\n",
         ),
+        (
+            "field gf2;\nsecret x;\noutput y;\nfor i in 0..16385 {\ny = y + x;\n}\n",
+            "38 large operations\n",
+        ),
         // the elements come first, and an offence before them
         (
             "field gf2;\nsecret a[65535];\nsecret b[2];\noutput y;\ny = b[2];\n",
@@ -154,6 +158,22 @@ fn a_program_is_refused_past_its_limits(rt: HostRuntime) -> Result<(), Memory> {
         ),
     ];
     assert!(rt; refuses_each(rt.alloc(), &rows)?);
+    // 15,626 operations with eight shares each
+    let sums = "field gf2;\nsecret x;\noutput y;\nfor i in 0..15626 {\ny = y + x;\n}\n";
+    let large = Answer {
+        status: Status::Source,
+        out: "",
+        err: "38 large size\n",
+    };
+    assert!(rt;
+        answers(
+            rt.alloc(),
+            &["compile", "7"],
+            sums.as_bytes(),
+            &WIDE,
+            &large
+        )?
+    );
     Ok(())
 }
 
