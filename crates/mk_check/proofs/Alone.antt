@@ -1,5 +1,5 @@
 -- A gadget that is placed in a code of its own, whose inputs are its operands.
-use Rattle.std.proofs.Common.{◌≡◌, ℕ, zero, suc, ◌+◌, ◌-◌, ◌*◌, ◌<◌, ◌≤◌, List, [], ◌∷◌, ◌++◌, length, map, slice_index, refl, sym, ◌∙◌, ap, subst, arith, inl, inr}
+use Rattle.std.proofs.Common.{◌≡◌, ℕ, zero, suc, ◌+◌, ◌*◌, ◌<◌, ◌≤◌, List, [], ◌∷◌, ◌++◌, length, map, slice_index, refl, sym, ◌∙◌, ap, subst, arith, inl, inr}
 use Rattle.std.specs.List.{range_with_len, All, AllByRecursion}
 use Rattle.std.proofs.lemmas.Bool.{cases_lt, lt-ltb}
 use Rattle.std.proofs.lemmas.List.Elements.{All-from_recursion}
@@ -13,7 +13,6 @@ use Rattle.mk_code.specs.Listing.{inputs_len}
 use Rattle.mk_code.specs.Draft.{Draft, draft_len, IsWholeWith}
 use Rattle.mk_gadget.specs.Emitted.{Emitted}
 use Rattle.mk_gadget.specs.Gadget.{Gadget, placement, moved, placed, placed_outs}
-use Rattle.mk_gadget.specs.Pairs.{pairs}
 use Rattle.mk_gadget.specs.Product.{product_gadget}
 use Rattle.mk_gadget.specs.Refresh.{refresh_gadget}
 use Rattle.mk_gadget.proofs.AddTemplate.{placement-own, AllBelow-range}

@@ -1,5 +1,5 @@
 -- The template of one block of a code, as it is placed.
-use Rattle.std.proofs.Common.{◌≡◌, ℕ, zero, suc, ◌+◌, ◌*◌, ◌<◌, ◌≤◌, List, [], ◌∷◌, ◌++◌, length, map, take, get_or, slice_get, Option, Some, refl, sym, ◌∙◌, ap, subst, arith}
+use Rattle.std.proofs.Common.{◌≡◌, ℕ, zero, suc, ◌+◌, ◌*◌, ◌<◌, ◌≤◌, List, [], ◌∷◌, ◌++◌, length, map, take, get_or, slice_get, Some, refl, sym, ◌∙◌, ap, subst, arith}
 use Rattle.std.proofs.lemmas.List.{length-append, length-map}
 use Rattle.std.proofs.lemmas.Option.{slice_get-map, slice_get_within}
 use Rattle.std.proofs.lemmas.Option.{get_or_from_slice_get}
@@ -8,18 +8,18 @@ use Rattle.std.specs.Option.{option_map}
 use Rattle.mk_code.specs.declared.instr.Instr.{Instr}
 use Rattle.mk_code.specs.declared.instr.Instr.TheVariants.{Rnd}
 use Rattle.mk_code.specs.Counting.{AllBelow}
-use Rattle.mk_code.specs.Listing.{Listing, IsListing, FitsAt, AllFit}
+use Rattle.mk_code.specs.Listing.{Listing, IsListing, FitsAt}
 use Rattle.mk_code.proofs.Steps.{AllFit-at}
 use Rattle.mk_ssa.specs.declared.Op.{Op}
 use Rattle.mk_ssa.specs.declared.Op.TheVariants.{Const, PubAdd, PubMul, PubSq, PubMap, Lift, Add, AddPub, Scale, Sq, Map, Mul, Refresh}
 use Rattle.mk_ssa.specs.Kinds.{kind, shared_operands, public_operands}
-use Rattle.mk_gadget.specs.Gadget.{Gadget, placement, moved, placed, placed_outs}
+use Rattle.mk_gadget.specs.Gadget.{placement, moved, placed, placed_outs}
 use Rattle.mk_gadget.specs.Product.{product_gadget}
 use Rattle.mk_gadget.specs.Refresh.{refresh_gadget}
 use Rattle.mk_gadget.specs.Template.{built_in}
 use Rattle.mk_gadget.proofs.Rows.{FitsAt-later}
 use Rattle.mk_rules.specs.Tiles.{reads, first_place}
-use Rattle.mk_rules.specs.Wired.{IsWired, Wired}
+use Rattle.mk_rules.specs.Wired.{Wired}
 use Rattle.mk_rules.proofs.Places.{wired-at}
 use Rattle.mk_rules.proofs.Standing.{places_of, is_known}
 use Rattle.mk_rules.proofs.Operators.{FitsBehind, places_behind, template-behind}

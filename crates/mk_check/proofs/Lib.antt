@@ -3,5 +3,5 @@ pub mod Rows
 pub mod Alone
 pub mod Block
 pub mod Claimed
-pub mod Passed
+pub mod Searching
 pub mod Verdicts

@@ -1,13 +1,14 @@
-//! Whether a value reaches both places of a product, by marks that are passed back from block to block.
+//! Whether a value reaches both places of a product, by a search back from each operand that goes only
+//! where a value reaches it.
 
-ghost use Rattle.std.specs.Prelude.{◌≡◌, ◌⊎◌, ◌+◌, ◌<◌, ◌≤◌, ◌^◌, ◌↔◌, ◌++◌, List, ℕ, true, false, IsTrue, IsSomeAnd, IfOk, IfErr, OnOk, MatchOption, length, map, slice_get, slice_index_or, slice_set, Some, nat_eq, option_to_list};
+ghost use Rattle.std.specs.Prelude.{◌≡◌, ◌⊎◌, ◌+◌, ◌<◌, ◌≤◌, ◌^◌, ◌↔◌, ◌++◌, ◌∷◌, [], List, ℕ, All, Contains, IsTrue, IsSomeAnd, IfOk, IfErr, IfSome, OnOk, length, map, slice_get, Some, option_to_list};
 ghost use Rattle.mk_ssa.specs.declared.Op.{Op};
 ghost use Rattle.mk_ssa.specs.declared.Operand.{Operand};
 ghost use Rattle.mk_ssa.specs.Kinds.{Strong};
 ghost use Rattle.mk_rules.specs.Tiles.{value_number as number_by_operand};
 ghost use Rattle.mk_rules.specs.Wired.{Wired, IsSharedThere};
 ghost use Rattle.mk_rules.specs.Reaches.{Reaches, Undoubled, links};
-ghost use Rattle.mk_check.specs.Passing.{passed_to as operands_by_kind, set_all, IsDoubling};
+ghost use Rattle.mk_check.specs.Passing.{linear_operands as operands_by_kind, Leads, IsFinding, IsAdded, IsDoubling};
 
 use crate::refusal::CheckRefusal;
 use crate::tiles::value_number;
@@ -16,41 +17,8 @@ use mk_code::Code;
 use mk_ssa::{Op, Operand};
 use std::alloc::Global;
 
-/// A mark for each of some values, none of them set.
-fn no_marks(alloc: Global, count: usize) -> Result<Vec<bool>, Memory>
-    ensures { IfOk result (λ marks. length marks.items ≡ count) }
-{
-    let mut marks = Vec::new(alloc);
-    while marks.len() < count {
-        marks.push(false)?;
-    }
-    Ok(marks)
-}
-
-/// Marks one value alone.
-fn mark_only(marks: &mut [bool], number: usize)
-    ensures count { length marks.new ≡ length marks.old }
-    ensures marks { (v : ℕ) → v < length marks.new → slice_index_or marks.new v false ≡ nat_eq v number }
-{
-    for v in 0..marks.len() {
-        marks[v] = v == number;
-    }
-}
-
-/// Marks one value more, if there is one and it is among them.
-fn mark_more(code: &Code, marks: &mut [bool], value: Option<Operand>)
-    ensures { marks.new ≡ set_all (map (number_by_operand code.now) (option_to_list value)) marks.old }
-{
-    if let Some(value) = value {
-        let number = value_number(code, value);
-        if number < marks.len() {
-            marks[number] = true;
-        }
-    }
-}
-
-/// The operands that a block passes a mark on to.
-fn passed_to(op: &Op) -> (Option<Operand>, Option<Operand>)
+/// The shared operands of a linear block, and none of any other.
+fn linear_operands(op: &Op) -> (Option<Operand>, Option<Operand>)
     ensures { option_to_list result.0 ++ option_to_list result.1 ≡ operands_by_kind op.now }
 {
     match *op {
@@ -61,45 +29,132 @@ fn passed_to(op: &Op) -> (Option<Operand>, Option<Operand>)
     }
 }
 
-/// Passes the mark of a block's value on to its operands.
-fn pass_back(code: &Code, op: &Op, marks: &mut [bool])
-    ensures { marks.new ≡ set_all (map (number_by_operand code.now) (operands_by_kind op.now)) marks.old }
-{
-    let (first, second) = passed_to(op);
-    mark_more(code, marks, first);
-    mark_more(code, marks, second);
-}
-
-/// Marks the values that reach a place of block `block` at which this operand stands.
-fn mark(code: &Code, blocks: &[Op], block: usize, value: Operand, marks: &mut [bool])
-    requires wired { Wired code.now blocks.now }
-    requires there { block < length blocks.now }
-    requires count { length marks.old ≡ code.now.secrets + code.now.publics + length blocks.now }
-    ensures count { length marks.new ≡ length marks.old }
-    ensures marks { (place : ℕ) → IsSomeAnd (slice_get (links code.now blocks.now) block) (λ link. (link.kind ≡ Strong) × (slice_get link.shared place ≡ Some (number_by_operand code.now value))) → (v : ℕ) → v < length marks.new → IsTrue (slice_index_or marks.new v false) ↔ Reaches (code.now.secrets + code.now.publics) (links code.now blocks.now) v block place }
+/// The operands that lead to the value with this number, if it is that of a linear block.
+fn leading_to(code: &Code, blocks: &[Op], number: usize) -> (Option<Operand>, Option<Operand>)
+    requires { number < code.now.secrets + code.now.publics + length blocks.now }
+    ensures { (v : ℕ) → Contains (map (number_by_operand code.now) (option_to_list result.0 ++ option_to_list result.1)) v ↔ Leads code.now blocks.now v number }
 {
     let inputs = code.secrets() as usize + code.publics() as usize;
-    mark_only(marks, value_number(code, value));
-    let mut k = block;
-    while k > 0 {
-        k -= 1;
-        if marks[inputs + k] {
-            pass_back(code, &blocks[k], marks);
-        }
+    if number < inputs {
+        (None, None)
+    } else {
+        linear_operands(&blocks[number - inputs])
     }
 }
 
-/// The first number that both marks.
-fn first_common(left: &[bool], right: &[bool]) -> Option<usize>
-    requires { length left.now ≡ length right.now }
-    ensures { MatchOption result ((v : ℕ) → v < length left.now → IsTrue (slice_index_or left.now v false) → IsTrue (slice_index_or right.now v false) → ⊥) (λ v. (v < length left.now) × IsTrue (slice_index_or left.now v false) × IsTrue (slice_index_or right.now v false) × ((w : ℕ) → w < v → IsTrue (slice_index_or left.now w false) → IsTrue (slice_index_or right.now w false) → ⊥)) }
+/// A search for the values that reach one of the places of a product, for one product after another. The
+/// stamp of a product is its block's number and one more.
+#[derive(Drop)]
+struct Search {
+    /// For each value, by its number, the stamp of the last product at which it was found, or 0.
+    stamps: Vec<u32>,
+    /// The numbers of the values found at the present product.
+    found: Vec<usize>,
+}
+
+impl Search {
+    /// A search among so many values, which found none yet.
+    fn new(alloc: Global, count: usize) -> Result<Search, Memory>
+        ensures count { IfOk result (λ search. length search.stamps.items ≡ count) }
+        ensures stamps { IfOk result (λ search. All (λ s. s ≤ 0) search.stamps.items) }
+    {
+        Ok(Search {
+            stamps: vec![in alloc; 0; count]?,
+            found: Vec::new(alloc),
+        })
+    }
+
+    /// Whether the value with this number was found at the product with this stamp.
+    fn has(&self, stamp: u32, number: usize) -> bool
+        requires { number < length self.now.stamps.items }
+        ensures { IsTrue result ↔ (slice_get self.now.stamps.items number ≡ Some stamp) }
+    {
+        self.stamps[number] == stamp
+    }
+
+    /// Adds the value with this number to those found, if it isn't among them.
+    fn add_number(&mut self, stamp: u32, number: usize) -> Result<(), Memory>
+        requires there { number < length self.old.stamps.items }
+        requires finding { IsFinding stamp self.old }
+        ensures { OnOk result (IsAdded stamp (number ∷ []) self.old self.new) }
+    {
+        if !self.has(stamp, number) {
+            self.stamps[number] = stamp;
+            self.found.push(number)?;
+        }
+        Ok(())
+    }
+
+    /// Adds a value to those found, if there is one and it isn't among them.
+    fn add(&mut self, code: &Code, stamp: u32, value: Option<Operand>) -> Result<(), Memory>
+        requires there { IfSome value (λ v. number_by_operand code.now v < length self.old.stamps.items) }
+        requires finding { IsFinding stamp self.old }
+        ensures { OnOk result (IsAdded stamp (map (number_by_operand code.now) (option_to_list value)) self.old self.new) }
+    {
+        if let Some(value) = value {
+            self.add_number(stamp, value_number(code, value))?;
+        }
+        Ok(())
+    }
+
+    /// Finds the values that reach a place of block `block` at which this operand stands.
+    fn run(
+        &mut self,
+        code: &Code,
+        blocks: &[Op],
+        block: usize,
+        value: Operand,
+    ) -> Result<(), Memory>
+        requires wired { Wired code.now blocks.now }
+        requires small { length blocks.now < 2 ^ 32 }
+        requires there { block < length blocks.now }
+        requires value { number_by_operand code.now value < code.now.secrets + code.now.publics + block }
+        requires count { length self.old.stamps.items ≡ code.now.secrets + code.now.publics + length blocks.now }
+        requires stamps { All (λ s. s ≤ block) self.old.stamps.items }
+        ensures count { OnOk result (length self.new.stamps.items ≡ length self.old.stamps.items) }
+        ensures finding { OnOk result (IsFinding (block + 1) self.new) }
+        ensures found { OnOk result ((place : ℕ) → IsSomeAnd (slice_get (links code.now blocks.now) block) (λ link. (link.kind ≡ Strong) × (slice_get link.shared place ≡ Some (number_by_operand code.now value))) → (v : ℕ) → Contains self.new.found.items v ↔ Reaches (code.now.secrets + code.now.publics) (links code.now blocks.now) v block place) }
+    {
+        let stamp = block as u32 + 1;
+        self.found.clear();
+        self.add(code, stamp, Some(value))?;
+        let mut next = 0;
+        while next < self.found.len() {
+            let (first, second) = leading_to(code, blocks, self.found[next]);
+            self.add(code, stamp, first)?;
+            self.add(code, stamp, second)?;
+            next += 1;
+        }
+        Ok(())
+    }
+}
+
+/// Whether the number comes before the first one so far, if there is one.
+fn is_before(number: usize, first: Option<usize>) -> bool
+    ensures { IsTrue result ↔ IfSome first (λ least. number < least) }
 {
-    for v in 0..left.len() {
-        if left[v] && right[v] {
-            return Some(v);
+    match first {
+        Some(least) => number < least,
+        None => true,
+    }
+}
+
+/// The first number that both searches found at the product with this stamp.
+fn first_common(left: &Search, right: &Search, stamp: u32) -> Option<usize>
+    requires left { IsFinding stamp left.now }
+    requires right { IsFinding stamp right.now }
+    requires count { length left.now.stamps.items ≡ length right.now.stamps.items }
+    ensures common { IfSome result (λ v. Contains left.now.found.items v × Contains right.now.found.items v) }
+    ensures least { (v : ℕ) → Contains left.now.found.items v → Contains right.now.found.items v → IsSomeAnd result (λ first. first ≤ v) }
+{
+    let mut first = None;
+    for k in 0..right.found.len() {
+        let number = right.found[k];
+        if left.has(stamp, number) && is_before(number, first) {
+            first = Some(number);
         }
     }
-    None
+    first
 }
 
 /// The value with this number.
@@ -119,7 +174,7 @@ fn value_at(code: &Code, number: usize) -> Operand
 }
 
 /// Answers `Doubled` for the first product of which a value reaches both places, with the first such
-/// value.
+/// value. A product costs what reaches it, however many blocks there are.
 pub(crate) fn undoubled(alloc: Global, code: &Code, blocks: &[Op]) -> Result<(), CheckRefusal>
     requires wired { Wired code.now blocks.now }
     requires small { length blocks.now < 2 ^ 32 }
@@ -127,13 +182,13 @@ pub(crate) fn undoubled(alloc: Global, code: &Code, blocks: &[Op]) -> Result<(),
     ensures doubled { IfErr result (λ e. (e ≡ CheckRefusal.Memory) ⊎ IsDoubling code.now blocks.now e) }
 {
     let count = code.secrets() as usize + code.publics() as usize + blocks.len();
-    let mut lefts = no_marks(alloc, count)?;
-    let mut rights = no_marks(alloc, count)?;
+    let mut lefts = Search::new(alloc, count)?;
+    let mut rights = Search::new(alloc, count)?;
     for (block, op) in blocks.iter().enumerate() {
         if let Op::Mul { left, right } = *op {
-            mark(code, blocks, block, left, lefts.as_mut_slice());
-            mark(code, blocks, block, right, rights.as_mut_slice());
-            if let Some(number) = first_common(lefts.as_slice(), rights.as_slice()) {
+            lefts.run(code, blocks, block, left)?;
+            rights.run(code, blocks, block, right)?;
+            if let Some(number) = first_common(&lefts, &rights, block as u32 + 1) {
                 return Err(CheckRefusal::Doubled {
                     value: value_at(code, number),
                     block: block as u32,

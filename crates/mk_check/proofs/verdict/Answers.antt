@@ -1,17 +1,14 @@
 -- What was found first, or that nothing was.
-use Rattle.std.proofs.Common.{◌≡◌, ◌+◌, ℕ, List, OnOk, IfErr, ◌⊎◌, ap, subst, ◌∙◌}
+use Rattle.std.proofs.Common.{◌≡◌, ◌+◌, ℕ, List, OnOk, ap, subst, ◌∙◌}
 use Rattle.mk_ssa.specs.declared.Op.{Op}
 use Rattle.mk_ssa.specs.declared.Operand.{Operand}
 use Rattle.mk_gadget.specs.Product.{product_gadget}
 use Rattle.mk_gadget.specs.Refresh.{refresh_gadget}
 use Rattle.mk_rules.specs.Accepts.{Outputs}
 use Rattle.mk_rules.specs.Reaches.{Undoubled, links}
-use Rattle.mk_rules.specs.Tiles.{Tiles}
 use Rattle.mk_rules.specs.Wired.{Wired}
 use Rattle.mk_check.specs.Laying.{all_laid}
-use Rattle.mk_check.specs.Passing.{IsDoubling}
-use Rattle.mk_check.specs.declared.refusal.CheckRefusal.TheVariants.{Memory}
-use Rattle.mk_check.proofs.Verdicts.{undoubled-accepted, doubling-refuses}
+use Rattle.mk_check.proofs.Verdicts.{undoubled-accepted}
 use Rattle.mk_check.proofs.verdict.Goals as goal
 
 pub returns-clause-accepted : goal.returns-clause-accepted

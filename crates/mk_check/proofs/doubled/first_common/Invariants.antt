@@ -1,7 +1,6 @@
--- None so far.
-use Rattle.std.proofs.Common.{◌<◌, ℕ, false, slice_index_or}
-use Rattle.std.specs.Bool.{IsTrue}
+-- The first common number so far.
+use Rattle.mk_check.proofs.Searching.{IsLeast}
 use Rattle.mk_check.proofs.doubled.first_common.Given as goal
 
-abbrev pub invariant-loop-v : goal.invariant-loop-v
-invariant-loop-v l = (w : ℕ) → w < l.v → IsTrue (slice_index_or l.left w false) → IsTrue (slice_index_or l.right w false) → ⊥
+abbrev pub invariant-loop-k : goal.invariant-loop-k
+invariant-loop-k l = IsLeast l.left.found.items l.right.found.items l.k l.first

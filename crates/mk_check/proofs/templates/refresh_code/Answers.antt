@@ -1,8 +1,7 @@
 -- The refresh is placed in a code of its own.
-use Rattle.std.proofs.Common.{arith, rules, ℕ, ◌≡◌, ◌+◌, ◌-◌, ◌*◌, [], ◌<◌, ◌≤◌, List, length, sym, ap, subst, ◌∙◌}
+use Rattle.std.proofs.Common.{arith, rules, ℕ, ◌≡◌, ◌+◌, ◌-◌, ◌*◌, [], length, ap, subst, ◌∙◌}
 use Rattle.mk_field.specs.declared.field.FieldId.TheVariants.{Gf2}
 use Rattle.mk_code.specs.Counting.{AllBelow}
-use Rattle.mk_code.specs.Draft.{Draft, draft_len}
 use Rattle.mk_code.specs.Listing.{Listing}
 use Rattle.mk_gadget.specs.Refresh.{refresh_gadget}
 use Rattle.mk_rules.proofs.BuiltIn.{refresh-template}

@@ -1,5 +1,5 @@
 -- The rows, share by share.
-use Rattle.std.proofs.Common.{ℕ, ◌+◌, ◌*◌, ◌<◌, arith, length, ◌∙◌, sym}
+use Rattle.std.proofs.Common.{◌+◌, arith}
 use Rattle.std.proofs.lemmas.List.FromFn.{length-map-range_with_len}
 use Rattle.mk_code.specs.declared.instr.Instr.TheVariants as instr
 use Rattle.mk_ssa.specs.declared.Op.TheVariants.{Lift, Add, AddPub, Scale, Sq, Map}

@@ -1,12 +1,9 @@
 -- One more instruction is that of the template, or the first that isn't.
-use Rattle.std.proofs.Common.{◌≡◌, ◌+◌, ◌-◌, ◌<◌, ◌≤◌, ℕ, List, length, take, slice_get, Option, Some, refl, sym, ap, subst, ◌∙◌, arith}
+use Rattle.std.proofs.Common.{◌≡◌, ◌+◌, ℕ, List, take, slice_get, Some, refl, sym, ap, subst, ◌∙◌, arith}
 use Rattle.std.proofs.lemmas.Option.{slice_get_within}
 use Rattle.mk_code.specs.declared.instr.Instr.{Instr}
-use Rattle.mk_code.specs.Listing.{FitsAt}
-use Rattle.mk_gadget.specs.Gadget.{placement, moved}
 use Rattle.mk_gadget.specs.Template.{built_in}
-use Rattle.mk_rules.specs.Tiles.{first_place}
-use Rattle.mk_check.specs.Laying.{all_laid, all_banks}
+use Rattle.mk_check.specs.Laying.{all_laid}
 use Rattle.mk_check.proofs.Lists.{found-at, none-at, agree-more, other-at, ended-at, slice_get_none-past}
 use Rattle.mk_check.proofs.Block.{near-instr, laid-wanted}
 use Rattle.mk_check.proofs.tiles.behind_block.Goals as goal

@@ -1,5 +1,5 @@
 -- The instructions so far are those of the template.
-use Rattle.std.proofs.Common.{◌≡◌, ◌≤◌, ◌+◌, ◌-◌, length}
+use Rattle.std.proofs.Common.{◌≤◌, ◌+◌, ◌-◌, length}
 use Rattle.mk_gadget.specs.Template.{built_in}
 use Rattle.mk_check.specs.Laying.{AgreesTo}
 use Rattle.mk_check.proofs.tiles.behind_block.Given as goal

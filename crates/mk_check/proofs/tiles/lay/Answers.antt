@@ -1,5 +1,5 @@
 -- One more block is laid, or the code goes on where the blocks have ended.
-use Rattle.std.proofs.Common.{◌≡◌, ◌+◌, ◌<◌, ◌≤◌, ℕ, List, [], length, take, get_or, slice_get, Some, refl, sym, ap, subst, ◌∙◌, inr, arith}
+use Rattle.std.proofs.Common.{◌≡◌, ◌+◌, ℕ, List, length, take, get_or, slice_get, Some, refl, sym, ap, subst, ◌∙◌, inr, arith}
 use Rattle.std.proofs.lemmas.List.{take_all}
 use Rattle.std.proofs.lemmas.Option.{slice_get-get_or}
 use Rattle.mk_code.specs.Counting.{AllBelow}
@@ -7,8 +7,8 @@ use Rattle.mk_ssa.specs.declared.Op.{Op}
 use Rattle.mk_ssa.specs.declared.Op.TheVariants.{Const}
 use Rattle.mk_gadget.specs.Gadget.{placed_outs}
 use Rattle.mk_gadget.specs.Template.{built_in}
-use Rattle.mk_rules.specs.Tiles.{laid, laid_banks, reads, first_place}
-use Rattle.mk_check.specs.Laying.{all_laid, all_banks}
+use Rattle.mk_rules.specs.Tiles.{laid, laid_banks, reads}
+use Rattle.mk_check.specs.Laying.{all_laid}
 use Rattle.mk_check.proofs.Lists.{goes_on-at}
 use Rattle.mk_check.proofs.Block.{near-outs, laid-next, banks-wanted}
 use Rattle.mk_check.proofs.tiles.lay.Goals as goal
