@@ -133,12 +133,6 @@ joined-from need (q ∷ ps) p held = elim (joined-from (with_place need q) ps p 
   | inr rest ↦ inr (in-behind q ps p rest)
 ]
 
--- the last place is joined last
-pub joined-last : (need ps : List Place) (p : Place) → joined need (ps ++ p ∷ []) ≡ with_place (joined need ps) p
-unfolding joined
-joined-last need [] p = refl
-joined-last need (q ∷ ps) p = joined-last (with_place need q) ps p
-
 -- two places of one product
 pub record Clashing (need brought : List Place) : Type 0 where
   pub first : Place

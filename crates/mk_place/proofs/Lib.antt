@@ -1,4 +1,7 @@
 mod Joining
+mod Ascending
+mod Merged
+mod Keeping
 mod Flow
 mod Taking
 pub mod Wiring

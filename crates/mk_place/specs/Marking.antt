@@ -1,5 +1,5 @@
 -- What the pass from the last value to the first holds.
-use Rattle.std.specs.Prelude.{◌≡◌, ℕ, suc, ◌+◌, ◌-◌, ◌<◌, ◌≤◌, Bool, false, Option, None, Some, List, [], length, map, drop, slice_get, slice_index_or, slice_set}
+use Rattle.std.specs.Prelude.{◌≡◌, ◌↔◌, ℕ, suc, ◌+◌, ◌-◌, ◌<◌, ◌≤◌, Bool, false, Option, None, Some, List, [], ◌∷◌, Contains, length, map, drop, slice_get, slice_index_or, slice_set}
 use Rattle.mk_ssa.specs.declared.Op.{Op}
 use Rattle.mk_ssa.specs.Kinds.{shared_operands}
 use Rattle.mk_ssa.specs.Values.{Values}
@@ -28,15 +28,26 @@ abbrev pub taken_mark : List (List Place) → Option ℕ → List Place → Bool
 taken_mark needs None brought = false
 taken_mark needs (Some v) brought = clash (slice_index_or needs v []) brought
 
+-- each of the places is of a product before those of the places behind it
+unfoldable pub AreAscending : List Place → Type 0
+AreAscending [] = Unit {0}
+AreAscending (p ∷ ps) = ((q : Place) → Contains ps q → p.value < q.value) × AreAscending ps
+
+-- the list has the places of the need, in order
+pub record IsNeed (need places : List Place) : Type 0 where
+  pub same : (p : Place) → Contains places p ↔ Contains need p
+  pub ascending : AreAscending places
+
 -- the needs with the use
-abbrev pub taken : List (List Place) → Option ℕ → List Place → List (List Place)
-taken needs None brought = needs
-taken needs (Some v) brought = slice_set needs v (added (slice_index_or needs v []) brought)
+abbrev pub IsTaken : List (List Place) → Option ℕ → List Place → List (List Place) → Type 0
+IsTaken needs None brought after = after ≡ needs
+IsTaken needs (Some v) brought after =
+    (places : List Place) × IsNeed (added (slice_index_or needs v []) brought) places × (after ≡ slice_set needs v places)
 
 -- the list has the needs of the values with the numbers below `len`
 pub record AreNeeds (needs : ℕ → List Place) (len : ℕ) (table : List (List Place)) : Type 0 where
   pub count : length table ≡ len
-  pub each : (v : ℕ) → v < len → slice_index_or table v [] ≡ needs v
+  pub each : (v : ℕ) → v < len → IsNeed (needs v) (slice_index_or table v [])
 
 -- the needs by value i and those behind it, without its own
 abbrev pub AreNeedsAt : Values → ℕ → List (List Place) → Type 0

@@ -3,7 +3,7 @@
 ghost use Rattle.std.specs.Prelude.{◌≡◌, ◌<◌, ◌+◌, ◌-◌, ℕ, [], ◌∷◌, length, slice_get, slice_index_or, IfOk, OnOk, IfSome};
 ghost use Rattle.mk_ssa.specs.Kinds.{kind};
 ghost use Rattle.mk_place.specs.Needs.{brought_by};
-ghost use Rattle.mk_place.specs.Marking.{AreNeeds, AreNeedsAt, inputs, taken, taken_mark, mark_at, AreMarks};
+ghost use Rattle.mk_place.specs.Marking.{AreAscending, AreNeedsAt, IsTaken, inputs, taken_mark, mark_at, AreMarks};
 
 use crate::need::{Need, Place, clash, join};
 use crate::operands::shared_numbers;
@@ -20,7 +20,8 @@ pub(crate) struct Fresh {
 
 /// The needs of so many values, of which no use is looked at yet.
 fn no_needs(alloc: Global, len: usize) -> Result<Vec<Need>, Memory>
-    ensures { IfOk result (λ needs. AreNeeds (λ v. []) len needs.items) }
+    ensures count { IfOk result (λ needs. length needs.items ≡ len) }
+    ensures none { IfOk result (λ needs. (v : ℕ) → slice_index_or needs.items v [] ≡ []) }
 {
     let mut needs = Vec::new(alloc);
     for _ in 0..len {
@@ -31,17 +32,24 @@ fn no_needs(alloc: Global, len: usize) -> Result<Vec<Need>, Memory>
 
 /// Takes a use of the value with this number, which brings these places, and answers whether it needs a
 /// refresh.
-fn take(needs: &mut Vec<Need>, operand: Option<usize>, brought: &[Place]) -> Result<bool, Memory>
-    requires { IfSome operand (λ v. v < length needs.old.items) }
+fn take(
+    alloc: Global,
+    needs: &mut Vec<Need>,
+    operand: Option<usize>,
+    brought: &[Place],
+) -> Result<bool, Memory>
+    requires there { IfSome operand (λ v. v < length needs.old.items) }
+    requires need { IfSome operand (λ v. AreAscending (slice_index_or needs.old.items v [])) }
+    requires brought { AreAscending brought.now }
     ensures mark { IfOk result (λ mark. mark ≡ taken_mark needs.old.items operand brought.now) }
-    ensures needs { OnOk result (needs.new.items ≡ taken needs.old.items operand brought.now) }
+    ensures needs { OnOk result (IsTaken needs.old.items operand brought.now needs.new.items) }
 {
     match operand {
         Some(v) => {
-            let need = &mut needs[v];
-            let clashes = clash(need.as_slice(), brought);
+            let clashes = clash(needs[v].as_slice(), brought);
             if !clashes {
-                join(need, brought)?;
+                let both = join(alloc, needs[v].as_slice(), brought)?;
+                needs[v] = both;
             }
             Ok(clashes)
         }
@@ -60,7 +68,7 @@ fn brought<'a>(op: Op, own: &'a [Place], here: &'a [Place]) -> &'a [Place]
 }
 
 /// Takes the uses by value `at`, those behind it being taken, and answers which need a refresh.
-fn step(needs: &mut Vec<Need>, s: &Ssa, at: u32) -> Result<Fresh, Memory>
+fn step(alloc: Global, needs: &mut Vec<Need>, s: &Ssa, at: u32) -> Result<Fresh, Memory>
     requires there { at < length s.now.values }
     requires needs { AreNeedsAt s.now (at + 1) needs.old.items }
     ensures needs { OnOk result (AreNeedsAt s.now at needs.new.items) }
@@ -79,11 +87,17 @@ fn step(needs: &mut Vec<Need>, s: &Ssa, at: u32) -> Result<Fresh, Memory>
         operand: 1,
     }];
     let second = take(
+        alloc,
         needs,
         right,
         brought(op, own.as_slice(), at_right.as_slice()),
     )?;
-    let first = take(needs, left, brought(op, own.as_slice(), at_left.as_slice()))?;
+    let first = take(
+        alloc,
+        needs,
+        left,
+        brought(op, own.as_slice(), at_left.as_slice()),
+    )?;
     Ok(Fresh { first, second })
 }
 
@@ -95,7 +109,7 @@ pub(crate) fn marks(alloc: Global, s: &Ssa) -> Result<Vec<Fresh>, Memory>
     let mut needs = no_needs(alloc, s.secrets() as usize + s.publics() as usize + len)?;
     let mut fresh = Vec::new(alloc);
     for done in 0..len {
-        fresh.push(step(&mut needs, s, (len - 1 - done) as u32)?)?;
+        fresh.push(step(alloc, &mut needs, s, (len - 1 - done) as u32)?)?;
     }
     Ok(fresh)
 }

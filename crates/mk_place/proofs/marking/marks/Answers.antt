@@ -1,9 +1,10 @@
 -- Each value is taken behind those after it.
-use Rattle.std.proofs.Common.{◌≡◌, ◌+◌, ◌-◌, [], ℕ, suc, List, length, sym, ◌∙◌, ap, subst, arith}
+use Rattle.std.proofs.Common.{◌≡◌, ◌+◌, ◌-◌, ℕ, suc, List, length, sym, ◌∙◌, ap, subst, arith}
 use Rattle.mk_ssa.specs.declared.Op.{Op}
 use Rattle.mk_ssa.specs.Values.{Values}
 use Rattle.mk_place.specs.declared.marking.Fresh.{Fresh}
-use Rattle.mk_place.specs.Marking.{AreNeeds, AreNeedsAt, AreMarks, inputs, mark_at}
+use Rattle.mk_place.specs.Marking.{AreNeedsAt, AreMarks, inputs, mark_at}
+use Rattle.mk_place.proofs.Keeping.{no-needs}
 use Rattle.mk_place.proofs.Stepping.{needs-start, marks-start, marks-step}
 use Rattle.mk_place.proofs.marking.marks.Goals as goal
 
@@ -15,9 +16,14 @@ loop-done-init c =
     let e : c.secrets.result + c.publics.result + c.len-len.result ≡ inputs s + (c.len-len.result - 0) = omega (arith, c.secrets.ensures, c.publics.ensures) in (
       count,
       needs-start s (c.len-len.result - 0) c.in_ok-needs.needs.items long
-          (subst (λ (n : ℕ). AreNeeds (λ v. []) n c.in_ok-needs.needs.items) e c.in_ok-needs.ensures),
+          (no-needs (inputs s + (c.len-len.result - 0)) c.in_ok-needs.needs.items (c.in_ok-needs.ensures.count ∙ e) c.in_ok-needs.ensures.none),
       subst (AreMarks s (c.len-len.result - 0)) (sym c.new-fresh.ensures.items) (marks-start s (c.len-len.result - 0) long),
     )
+
+pub step-requires-clause-needs : goal.step-requires-clause-needs
+step-requires-clause-needs c =
+    let e : c.len-len.result - c.loop-done.done ≡ c.len-len.result - 1 - c.loop-done.done + 1 = omega (arith, c.loop-done-test.true) in
+    subst (λ (n : ℕ). AreNeedsAt c.args.s.now n c.loop-done.needs.items) e c.loop-done.invariant.1
 
 pub loop-done-preserved : goal.loop-done-preserved
 loop-done-preserved c =

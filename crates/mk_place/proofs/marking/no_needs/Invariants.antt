@@ -1,7 +1,9 @@
 -- So many values have no need.
-use Rattle.std.proofs.Common.{ℕ, []}
-use Rattle.mk_place.specs.Marking.{AreNeeds}
+use Rattle.std.proofs.Common.{◌≡◌, ℕ, [], length, slice_index_or}
 use Rattle.mk_place.proofs.marking.no_needs.Given as goal
 
 abbrev pub invariant-loop : goal.invariant-loop
-invariant-loop l = AreNeeds (λ (v : ℕ). []) l.counter l.needs.items
+invariant-loop l = record {
+  count : length l.needs.items ≡ l.counter;
+  none : (v : ℕ) → slice_index_or l.needs.items v [] ≡ [];
+}
