@@ -6,46 +6,57 @@ use Rattle.mk_bundle.specs.Pairs.{TextsDiffer}
 use Rattle.mk_top.specs.declared.status.Status.TheVariants as status
 use Rattle.mk_top.specs.declared.fault.Fault.{Fault}
 use Rattle.mk_top.specs.declared.fault.Fault.TheVariants as fault_
-use Rattle.mk_top.specs.Words.{Command, Compile, Check, Eval, Run, GivenTape, Seed, Tape, SaysElements, SaysTape, Asks}
-use Rattle.mk_top.specs.Forms.{AreElements, IsTapeForm, OfElements, OfRun, SaysTapeSo, IsGivenBy}
+use Rattle.mk_top.specs.Words.{Command, Compile, Check, Eval, Run, Count, Report, Gen, Trial, GivenTape, Seed, Tape, SaysElements, SaysTape, SaysProbes, Asks}
+use Rattle.mk_top.specs.Forms.{AreElements, AreProbes, IsTapeForm, OfElements, OfRun, OfCount, SaysTapeSo, IsGivenBy, AsksSo}
+use Rattle.mk_top.specs.declared.command.Form.{Form}
+use Rattle.mk_top.specs.declared.command.Form.TheVariants as form
 use Rattle.mk_top.specs.declared.command.TapeForm.{TapeForm}
 use Rattle.mk_top.specs.declared.command.TapeForm.TheVariants as tape_
-use Rattle.mk_top.specs.Faults.{fault_of_eval, fault_of_run, status_of}
-use Rattle.mk_top.specs.Answers.{ReadWhole, Makes, Decides, TextDecides, Because, TakesWhole, TakesSome, IsOrMemory, answer_status, limit_of}
-use Rattle.mk_top.specs.Running.{Finished, StoppedAt, Stopped}
+use Rattle.mk_top.specs.Faults.{fault_of_eval, fault_of_run, fault_of_count, status_of}
+use Rattle.mk_top.specs.Answers.{ReadWhole, Reads, input_of, Makes, Decides, TextDecides, Because, TakesWhole, TakesSome, IsOrMemory, answer_status, limit_of, IsAnswerOf}
+use Rattle.mk_top.specs.Running.{Finished, StoppedAt, Stopped, ReadsOrLeaves}
 use Rattle.mk_top.proofs.Deciding.{asks-one, decides-one}
+use Rattle.mk_top.proofs.Tried.{tries-decides}
 
 -- what a command makes of its input decides that there is no fault
-makes-decides : (command : Command) (bytes written : List ℕ) → Makes command (Some bytes) written → length bytes ≤ limit_of command → Decides command bytes None
-makes-decides (Compile order) bytes written makes within =
+makes-decides : (words : List (List ℕ)) (command : Command) (bytes written : List ℕ) → Asks words command → Makes command (Some bytes) written → length bytes ≤ limit_of command
+    → Decides command bytes None
+makes-decides words (Compile order) bytes written asks makes within =
     (within, (makes.tree, makes.source.spelled.spelled, makes.source.typed, makes.within))
-makes-decides Check bytes written makes within =
+makes-decides words Check bytes written asks makes within =
     (within, (makes.0.code, makes.0.cert, makes.0.pair, makes.0.bundle, makes.0.accepted))
-makes-decides (Eval ps ss) bytes written makes within =
+makes-decides words (Eval ps ss) bytes written asks makes within =
     (within, (makes.tree, makes.source.spelled.spelled, makes.source.typed, sym (ap (option_map fault_of_eval) makes.taken)))
-makes-decides (Run ps ss tape) bytes written makes within =
+makes-decides words (Run ps ss tape) bytes written asks makes within =
     (within, (makes.code, makes.cert, makes.pair, makes.bundle, sym (ap (option_map fault_of_run) makes.taken)))
+makes-decides words (Count ps one two qs) bytes written asks makes within =
+    (within, (makes.code, makes.cert, makes.pair, makes.bundle, sym (ap (option_map fault_of_count) makes.taken)))
+makes-decides words Report bytes written asks makes within = (within, (makes.code, makes.cert, makes.pair, makes.bundle, makes.accepted))
+makes-decides words (Gen turns) bytes written asks makes within = (within, refl)
+makes-decides words (Trial turns order) bytes written asks makes within = (within, tries-decides turns order written asks.3.1 asks.3.2 makes)
 
 module _ (words : List (List ℕ)) (given after : Option (List ℕ)) (reads then_reads : ℕ) (before taken : Option (List ℕ)) (writes then_writes : ℕ) where
   -- a run that stopped under words that ask for a command stopped at this command
   pub stopped-at : (command : Command) (fault : Fault) → Asks words command → Stopped words given after reads then_reads before taken writes then_writes fault
-      → StoppedAt command given after reads then_reads before taken writes then_writes fault
+      → StoppedAt command (input_of command given) (input_of command after) reads then_reads before taken writes then_writes fault
   stopped-at command fault asks stopped = go fault stopped
     where
-      moved : (f : Fault) (other : Command) → Asks words other → StoppedAt other given after reads then_reads before taken writes then_writes f
-          → StoppedAt command given after reads then_reads before taken writes then_writes f
+      moved : (f : Fault) (other : Command) → Asks words other → StoppedAt other (input_of other given) (input_of other after) reads then_reads before taken writes then_writes f
+          → StoppedAt command (input_of command given) (input_of command after) reads then_reads before taken writes then_writes f
       moved f other asked at =
-          subst (λ (k : Command). StoppedAt k given after reads then_reads before taken writes then_writes f) (asks-one words other command asked asks) at
+          subst (λ (k : Command). StoppedAt k (input_of k given) (input_of k after) reads then_reads before taken writes then_writes f) (asks-one words other command asked asks) at
 
-      go : (f : Fault) → Stopped words given after reads then_reads before taken writes then_writes f → StoppedAt command given after reads then_reads before taken writes then_writes f
+      go : (f : Fault) → Stopped words given after reads then_reads before taken writes then_writes f
+          → StoppedAt command (input_of command given) (input_of command after) reads then_reads before taken writes then_writes f
       go fault_.Words s = absurd (s command asks)
       go f s = moved f s.0 s.1 s.2
 
 -- a command that was carried out is the one that the words ask for
 pub finished-at : (words : List (List ℕ)) (command : Command) (given after before taken : Option (List ℕ))
-    → (other : Command) × Asks words other × Finished other given after before taken → Asks words command → Finished command given after before taken
+    → (other : Command) × Asks words other × Finished other (input_of other given) (input_of other after) before taken → Asks words command
+    → Finished command (input_of command given) (input_of command after) before taken
 finished-at words command given after before taken finished asks =
-    subst (λ (k : Command). Finished k given after before taken) (asks-one words finished.0 command finished.1 asks) finished.2
+    subst (λ (k : Command). Finished k (input_of k given) (input_of k after) before taken) (asks-one words finished.0 command finished.1 asks) finished.2
 
 -- what the bytes within the limit decide is what the bytes decide
 within-decides : (command : Command) (given after : Option (List ℕ)) (P : List ℕ → Type 0) → ReadWhole (limit_of command) given after → IfSome given P
@@ -65,10 +76,26 @@ stopped-because command given after reads then_reads before taken writes then_wr
     within-decides command given after (λ bs. TextDecides command bs (Some (fault_.Check why))) s.1 s.0
 stopped-because command given after reads then_reads before taken writes then_writes (fault_.Bundle line) s =
     within-decides command given after (λ bs. TextDecides command bs (Some (fault_.Bundle line))) s.1 s.0
-stopped-because command given after reads then_reads before taken writes then_writes fault_.ReadFault s = s
+stopped-because command given after reads then_reads before taken writes then_writes (fault_.Tapes elements) s =
+    within-decides command given after (λ bs. TextDecides command bs (Some (fault_.Tapes elements))) s.1 s.0
+stopped-because command given after reads then_reads before taken writes then_writes fault_.ReadFault s = (s.1, s.2)
 stopped-because command given after reads then_reads before taken writes then_writes fault_.WriteFault s = s.rose
 stopped-because command given after reads then_reads before taken writes then_writes fault_.Memory s = tt
-stopped-because command given after reads then_reads before taken writes then_writes (fault_.TooLong at) s = s
+stopped-because command given after reads then_reads before taken writes then_writes (fault_.TooLong at) s = s.1
+
+-- why a command stopped is one of its answers
+pub stopped-answer : (command : Command) (given after : Option (List ℕ)) (reads then_reads : ℕ) (before taken : Option (List ℕ)) (writes then_writes : ℕ) (fault : Fault)
+    → StoppedAt command given after reads then_reads before taken writes then_writes fault → IsAnswerOf command (status_of fault)
+stopped-answer command given after reads then_reads before taken writes then_writes fault_.Words s = absurd s
+stopped-answer command given after reads then_reads before taken writes then_writes (fault_.Source why) s = s.2
+stopped-answer command given after reads then_reads before taken writes then_writes (fault_.Inputs why) s = s.2
+stopped-answer command given after reads then_reads before taken writes then_writes (fault_.Check why) s = s.2
+stopped-answer command given after reads then_reads before taken writes then_writes (fault_.Bundle line) s = s.2
+stopped-answer command given after reads then_reads before taken writes then_writes fault_.ReadFault s = s.0
+stopped-answer command given after reads then_reads before taken writes then_writes fault_.WriteFault s = tt
+stopped-answer command given after reads then_reads before taken writes then_writes fault_.Memory s = tt
+stopped-answer command given after reads then_reads before taken writes then_writes (fault_.Tapes elements) s = s.2
+stopped-answer command given after reads then_reads before taken writes then_writes (fault_.TooLong at) s = s.0
 
 -- a command that stopped where the output failed had its text made, and a prefix of it taken
 pub stopped-cut : (command : Command) (given after : Option (List ℕ)) (reads then_reads : ℕ) (before taken : Option (List ℕ)) (writes then_writes : ℕ) (fault : Fault)
@@ -82,6 +109,7 @@ stopped-cut command given after reads then_reads before taken writes then_writes
 stopped-cut command given after reads then_reads before taken writes then_writes fault_.ReadFault s is = absurd cc
 stopped-cut command given after reads then_reads before taken writes then_writes fault_.WriteFault s is = (s.written, s.makes, s.some)
 stopped-cut command given after reads then_reads before taken writes then_writes fault_.Memory s is = absurd cc
+stopped-cut command given after reads then_reads before taken writes then_writes (fault_.Tapes elements) s is = absurd cc
 stopped-cut command given after reads then_reads before taken writes then_writes (fault_.TooLong at) s is = absurd cc
 
 -- a command whose text was put is finished where it was put whole
@@ -102,13 +130,28 @@ put-stopped command given after reads then_reads before taken writes then_writes
 
 -- a command that was asked for and stopped is a run that stopped
 pub stopped-asked : (words : List (List ℕ)) (command : Command) (given after : Option (List ℕ)) (reads then_reads : ℕ) (before taken : Option (List ℕ)) (writes then_writes : ℕ) (r : Result (Unit {0}) Fault)
-    → Asks words command → IfErr r (StoppedAt command given after reads then_reads before taken writes then_writes)
+    → Asks words command → IfErr r (StoppedAt command (input_of command given) (input_of command after) reads then_reads before taken writes then_writes)
     → IfErr r (Stopped words given after reads then_reads before taken writes then_writes)
 stopped-asked words command given after reads then_reads before taken writes then_writes (Ok done) asks stopped = tt
 stopped-asked words command given after reads then_reads before taken writes then_writes (Err fault_.Words) asks stopped = absurd stopped
 stopped-asked words command given after reads then_reads before taken writes then_writes (Err fault) asks stopped = (command, asks, stopped)
 
--- and so is an evaluation on the elements that the words say
+-- one that was asked for and carried out is a run that was
+pub finished-asked : (words : List (List ℕ)) (command : Command) (given after before taken : Option (List ℕ)) (r : Result (Unit {0}) Fault)
+    → Asks words command → OnOk r (Finished command (input_of command given) (input_of command after) before taken)
+    → OnOk r ((other : Command) × Asks words other × Finished other (input_of other given) (input_of other after) before taken)
+finished-asked words command given after before taken (Ok done) asks finished = (command, asks, finished)
+finished-asked words command given after before taken (Err fault) asks finished = tt
+
+-- an evaluation on the elements that the words say and that was carried out is one that the words ask for
+pub finished-evaluated : (words : List (List ℕ)) (first second : List ℕ) (given after before taken : Option (List ℕ)) (r : Result (Unit {0}) Fault)
+    → words ≡ codes "eval" ∷ first ∷ second ∷ [] → OnOk r (OfElements first second (λ command. Finished command given after before taken))
+    → OnOk r ((other : Command) × Asks words other × Finished other (input_of other given) (input_of other after) before taken)
+finished-evaluated words first second given after before taken (Ok done) asks finished =
+    (Eval finished.0 finished.1, (first, second, asks, finished.2, finished.3), finished.4)
+finished-evaluated words first second given after before taken (Err fault) asks finished = tt
+
+-- and one that stopped is a run that stopped
 pub stopped-evaluated : (words : List (List ℕ)) (first second : List ℕ) (given after : Option (List ℕ)) (reads then_reads : ℕ) (before taken : Option (List ℕ)) (writes then_writes : ℕ) (r : Result (Unit {0}) Fault)
     → words ≡ codes "eval" ∷ first ∷ second ∷ []
     → IfErr r (λ fault. OfElements first second (λ command. StoppedAt command given after reads then_reads before taken writes then_writes fault))
@@ -134,9 +177,9 @@ asks-run words kind word first second tape P asks says of =
 pub finished-run : (words : List (List ℕ)) (kind word : List ℕ) (first second : List ℕ) (tape : TapeForm) (given after before taken : Option (List ℕ)) (r : Result (Unit {0}) Fault)
     → words ≡ codes "run" ∷ first ∷ second ∷ kind ∷ word ∷ [] → SaysTapeSo kind word tape
     → OnOk r (OfRun first second tape (λ command. Finished command given after before taken))
-    → OnOk r ((command : Command) × Asks words command × Finished command given after before taken)
+    → OnOk r ((command : Command) × Asks words command × Finished command (input_of command given) (input_of command after) before taken)
 finished-run words kind word first second tape given after before taken (Ok done) asks says finished =
-    asks-run words kind word first second tape (λ command. Finished command given after before taken) asks says finished
+    asks-run words kind word first second tape (λ command. Finished command (input_of command given) (input_of command after) before taken) asks says finished
 finished-run words kind word first second tape given after before taken (Err fault) asks says finished = tt
 
 -- and one that stopped is a run that stopped
@@ -146,15 +189,16 @@ pub stopped-run : (words : List (List ℕ)) (kind word : List ℕ) (first second
     → IfErr r (Stopped words given after reads then_reads before taken writes then_writes)
 stopped-run words kind word first second tape given after reads then_reads before taken writes then_writes (Ok done) asks says stopped = tt
 stopped-run words kind word first second tape given after reads then_reads before taken writes then_writes (Err fault) asks says stopped =
-    let run = asks-run words kind word first second tape (λ command. StoppedAt command given after reads then_reads before taken writes then_writes fault) asks says stopped in
+    let run =
+    asks-run words kind word first second tape (λ command. StoppedAt command (input_of command given) (input_of command after) reads then_reads before taken writes then_writes fault) asks says stopped in
     stopped-asked words run.0 given after reads then_reads before taken writes then_writes (Err fault) run.1 run.2
 
--- what holds of every command holds of the run on what the words say
+-- what holds of every run holds of the one on what the words say
 pub any-run : (first second : List ℕ) (tape : TapeForm) (P : Command → Type 0) → AreElements first → AreElements second → IsTapeForm tape
-    → ((command : Command) → P command) → OfRun first second tape P
-any-run first second (tape_.Seed seed) P one two said all = (one.0, two.0, Seed seed, one.1, two.1, refl, all (Run one.0 two.0 (Seed seed)))
+    → ((publics secrets : List ℕ) (given : GivenTape) → P (Run publics secrets given)) → OfRun first second tape P
+any-run first second (tape_.Seed seed) P one two said all = (one.0, two.0, Seed seed, one.1, two.1, refl, all one.0 two.0 (Seed seed))
 any-run first second (tape_.Elements word) P one two said all =
-    (one.0, two.0, Tape said.0.0, one.1, two.1, (said.0.0, said.0.1, refl), all (Run one.0 two.0 (Tape said.0.0)))
+    (one.0, two.0, Tape said.0.0, one.1, two.1, (said.0.0, said.0.1, refl), all one.0 two.0 (Tape said.0.0))
 
 -- so a run that wants memory before it reads is one that stopped
 pub run-wanting : (first second : List ℕ) (tape : TapeForm) (given after : Option (List ℕ)) (reads then_reads : ℕ) (before taken : Option (List ℕ)) (writes then_writes : ℕ) (r : Result (Unit {0}) Fault) (why : Fault)
@@ -163,7 +207,113 @@ pub run-wanting : (first second : List ℕ) (tape : TapeForm) (given after : Opt
 run-wanting first second tape given after reads then_reads before taken writes then_writes r why one two said is wanted =
     let P = λ (fault : Fault). OfRun first second tape (λ command. StoppedAt command given after reads then_reads before taken writes then_writes fault) in
     subst (λ (s : Result (Unit {0}) Fault). IfErr s P) (sym is)
-    (subst P (sym wanted) (any-run first second tape (λ command. StoppedAt command given after reads then_reads before taken writes then_writes fault_.Memory) one two said (λ command. tt)))
+    (subst P (sym wanted) (any-run first second tape (λ command. StoppedAt command given after reads then_reads before taken writes then_writes fault_.Memory) one two said (λ publics secrets given. tt)))
+
+-- words of a count ask for the count on what they say
+asks-count : (words : List (List ℕ)) (word one two seen : List ℕ) (P : Command → Type 0)
+    → words ≡ codes "count" ∷ word ∷ one ∷ two ∷ seen ∷ [] → OfCount word one two seen P → (command : Command) × Asks words command × P command
+asks-count words word one two seen P asks of = (Count of.0 of.1 of.2 of.3, (word, one, two, seen, asks, of.4, of.5, of.6, of.7), of.8)
+
+-- a count on what the words say that was carried out is one that the words ask for
+pub finished-count : (words : List (List ℕ)) (word one two seen : List ℕ) (given after before taken : Option (List ℕ)) (r : Result (Unit {0}) Fault)
+    → words ≡ codes "count" ∷ word ∷ one ∷ two ∷ seen ∷ [] → OnOk r (OfCount word one two seen (λ command. Finished command given after before taken))
+    → OnOk r ((command : Command) × Asks words command × Finished command (input_of command given) (input_of command after) before taken)
+finished-count words word one two seen given after before taken (Ok done) asks finished =
+    asks-count words word one two seen (λ command. Finished command (input_of command given) (input_of command after) before taken) asks finished
+finished-count words word one two seen given after before taken (Err fault) asks finished = tt
+
+-- and one that stopped is a run that stopped
+pub stopped-count : (words : List (List ℕ)) (word one two seen : List ℕ) (given after : Option (List ℕ)) (reads then_reads : ℕ) (before taken : Option (List ℕ)) (writes then_writes : ℕ) (r : Result (Unit {0}) Fault)
+    → words ≡ codes "count" ∷ word ∷ one ∷ two ∷ seen ∷ []
+    → IfErr r (λ fault. OfCount word one two seen (λ command. StoppedAt command given after reads then_reads before taken writes then_writes fault))
+    → IfErr r (Stopped words given after reads then_reads before taken writes then_writes)
+stopped-count words word one two seen given after reads then_reads before taken writes then_writes (Ok done) asks stopped = tt
+stopped-count words word one two seen given after reads then_reads before taken writes then_writes (Err fault) asks stopped =
+    let counted =
+    asks-count words word one two seen (λ command. StoppedAt command (input_of command given) (input_of command after) reads then_reads before taken writes then_writes fault) asks stopped in
+    stopped-asked words counted.0 given after reads then_reads before taken writes then_writes (Err fault) counted.1 counted.2
+
+-- a count on elements and probes is one on the words that say them
+module _ (word one two seen publics first second probes qs us xs ks : List ℕ) (P : Command → Type 0)
+    (says : SaysElements word publics × SaysElements one first × SaysElements two second × SaysProbes seen probes)
+    (same : (qs ≡ publics) × (us ≡ first) × (xs ≡ second) × (ks ≡ probes)) where
+  count-said : P (Count qs us xs ks) → OfCount word one two seen P
+  count-said holds = (
+    qs,
+    us,
+    xs,
+    ks,
+    subst (SaysElements word) (sym same.0) says.0,
+    subst (SaysElements one) (sym same.1) says.1,
+    subst (SaysElements two) (sym same.2) says.2,
+    subst (SaysProbes seen) (sym same.3) says.3,
+    holds,
+  )
+
+-- so is one that was carried out
+pub finished-said : (word one two seen publics first second probes qs us xs ks : List ℕ) (P : Command → Type 0) (r : Result (Unit {0}) Fault)
+    → SaysElements word publics × SaysElements one first × SaysElements two second × SaysProbes seen probes
+    → (qs ≡ publics) × (us ≡ first) × (xs ≡ second) × (ks ≡ probes)
+    → OnOk r (P (Count qs us xs ks)) → OnOk r (OfCount word one two seen P)
+finished-said word one two seen publics first second probes qs us xs ks P (Ok done) says same holds =
+    count-said word one two seen publics first second probes qs us xs ks P says same holds
+finished-said word one two seen publics first second probes qs us xs ks P (Err fault) says same holds = tt
+
+-- and one that stopped
+pub stopped-said : (word one two seen publics first second probes qs us xs ks : List ℕ) (P : Command → Fault → Type 0) (r : Result (Unit {0}) Fault)
+    → SaysElements word publics × SaysElements one first × SaysElements two second × SaysProbes seen probes
+    → (qs ≡ publics) × (us ≡ first) × (xs ≡ second) × (ks ≡ probes)
+    → IfErr r (P (Count qs us xs ks)) → IfErr r (λ fault. OfCount word one two seen (λ command. P command fault))
+stopped-said word one two seen publics first second probes qs us xs ks P (Ok done) says same holds = tt
+stopped-said word one two seen publics first second probes qs us xs ks P (Err fault) says same holds =
+    count-said word one two seen publics first second probes qs us xs ks (λ command. P command fault) says same holds
+
+-- so a count that wants memory before it reads is one that stopped
+pub count-wanting : (word one two seen : List ℕ) (given after : Option (List ℕ)) (reads then_reads : ℕ) (before taken : Option (List ℕ)) (writes then_writes : ℕ) (r : Result (Unit {0}) Fault) (why : Fault)
+    → AreElements word → AreElements one → AreElements two → AreProbes seen → r ≡ Err why → why ≡ fault_.Memory
+    → IfErr r (λ fault. OfCount word one two seen (λ command. StoppedAt command given after reads then_reads before taken writes then_writes fault))
+count-wanting word one two seen given after reads then_reads before taken writes then_writes r why publics first second probes is wanted =
+    let P = λ (fault : Fault). OfCount word one two seen (λ command. StoppedAt command given after reads then_reads before taken writes then_writes fault) in
+    subst (λ (s : Result (Unit {0}) Fault). IfErr s P) (sym is)
+    (subst P (sym wanted) (publics.0, first.0, second.0, probes.0, publics.1, first.1, second.1, probes.1, tt))
+
+-- the tape that the words give has a word of elements, where it has a word
+tape-form : (kind word : List ℕ) (tape : TapeForm) → SaysTapeSo kind word tape → IsTapeForm tape
+tape-form kind word (tape_.Seed seed) says = tt
+tape-form kind word (tape_.Elements at) says = says.2
+
+-- what a command that reads nothing has to show: that its input was left
+abbrev LeavesBy : Form → Type 0 → Type 0
+LeavesBy (form.Gen turns) left = left
+LeavesBy (form.Trial turns order) left = left
+LeavesBy f left = Unit {0}
+
+-- what was asked for reads its input, or left it
+pub asked-leaves : (words : List (List ℕ)) (f : Form) (left : Type 0) → AsksSo words f → LeavesBy f left → ReadsOrLeaves words left
+asked-leaves words (form.Compile order) left asks leaves = inr (Compile order, asks, inl tt)
+asked-leaves words form.Check left asks leaves = inr (Check, asks, inl tt)
+asked-leaves words (form.Eval publics secrets) left asks leaves =
+    inr (Eval asks.1.0.0 asks.2.0.0, (publics.now, secrets.now, asks.0, asks.1.0.1, asks.2.0.1), inl tt)
+asked-leaves words (form.Run publics secrets tape) left asks leaves =
+    let run =
+    asks-run words asks.0 asks.1 publics.now secrets.now tape Reads asks.2 asks.5
+    (any-run publics.now secrets.now tape Reads asks.3.0 asks.4.0 (tape-form asks.0 asks.1 tape asks.5) (λ ps ss given. tt)) in
+    inr (run.0, run.1, inl run.2)
+asked-leaves words (form.Count publics first second probes) left asks leaves =
+    inr (
+      Count asks.1.0.0 asks.2.0.0 asks.3.0.0 asks.4.0.0,
+      (publics.now, first.now, second.now, probes.now, asks.0, asks.1.0.1, asks.2.0.1, asks.3.0.1, asks.4.0.1),
+      inl tt,
+    )
+asked-leaves words form.Report left asks leaves = inr (Report, asks, inl tt)
+asked-leaves words (form.Gen turns) left asks leaves = inr (Gen turns, asks, inr leaves)
+asked-leaves words (form.Trial turns order) left asks leaves = inr (Trial turns order, asks, inr leaves)
+
+-- a command that reads nothing left its input
+pub left-unread : (words : List (List ℕ)) (command : Command) (left : Type 0) → ReadsOrLeaves words left → Asks words command → (Reads command → ⊥) → left
+left-unread words command left (inl none) asks unread = absurd (none command asks)
+left-unread words command left (inr (other, asked, inl reads)) asks unread = absurd (unread (subst Reads (asks-one words other command asked asks) reads))
+left-unread words command left (inr (other, asked, inr leaves)) asks unread = leaves
 
 module _ (differ : TextsDiffer) where
   -- a fault other than want of memory is the one that the bytes decide
@@ -172,12 +322,12 @@ module _ (differ : TextsDiffer) where
   decided-fault command bytes fault answer stopped decides = inl (ap answer_status (decides-one differ command bytes (Some fault) answer stopped decides))
 
   -- where no fault rose, a stopped command answers what its bytes decide, or memory was wanted
-  pub stopped-decided : (command : Command) (given after : Option (List ℕ)) (reads then_reads : ℕ) (before taken : Option (List ℕ)) (writes then_writes : ℕ)
-      (fault : Fault) (answer : Option Fault) → StoppedAt command given after reads then_reads before taken writes then_writes fault
+  pub stopped-decided : (words : List (List ℕ)) (command : Command) (given after : Option (List ℕ)) (reads then_reads : ℕ) (before taken : Option (List ℕ)) (writes then_writes : ℕ)
+      (fault : Fault) (answer : Option Fault) → Asks words command → StoppedAt command given after reads then_reads before taken writes then_writes fault
       → (Rose reads then_reads → ⊥) → (answer ≡ None → Rose writes then_writes → ⊥)
       → IfSome given (λ bytes. Decides command bytes answer → IsOrMemory (status_of fault) (answer_status answer))
-  stopped-decided command None after reads then_reads before taken writes then_writes fault answer stopped calm still = tt
-  stopped-decided command (Some bytes) after reads then_reads before taken writes then_writes fault answer stopped calm still =
+  stopped-decided words command None after reads then_reads before taken writes then_writes fault answer asks stopped calm still = tt
+  stopped-decided words command (Some bytes) after reads then_reads before taken writes then_writes fault answer asks stopped calm still =
       λ decides. go fault stopped decides
     where
       go : (f : Fault) → StoppedAt command (Some bytes) after reads then_reads before taken writes then_writes f → Decides command bytes answer
@@ -187,19 +337,17 @@ module _ (differ : TextsDiffer) where
       go (fault_.Inputs why) s decides = decided-fault command bytes (fault_.Inputs why) answer (s.1.0, s.0) decides
       go (fault_.Check why) s decides = decided-fault command bytes (fault_.Check why) answer (s.1.0, s.0) decides
       go (fault_.Bundle line) s decides = decided-fault command bytes (fault_.Bundle line) answer (s.1.0, s.0) decides
-      go fault_.ReadFault s decides = absurd (calm s.0)
+      go fault_.ReadFault s decides = absurd (calm s.1)
       go fault_.WriteFault s decides =
-          absurd (still (decides-one differ command bytes answer None decides (makes-decides command bytes s.written s.makes s.read.0)) s.rose)
+          absurd (still (decides-one differ command bytes answer None decides (makes-decides words command bytes s.written asks s.makes s.read.0)) s.rose)
       go fault_.Memory s decides = inr refl
-      go (fault_.TooLong at) s decides = decided-fault command bytes (fault_.TooLong at) answer s decides
+      go (fault_.Tapes elements) s decides = decided-fault command bytes (fault_.Tapes elements) answer (s.1.0, s.0) decides
+      go (fault_.TooLong at) s decides = decided-fault command bytes (fault_.TooLong at) answer s.1 decides
 
   -- a command that was carried out answers what its bytes decide
   pub finished-decided : (words : List (List ℕ)) (command : Command) (given after before taken : Option (List ℕ)) (answer : Option Fault)
-      → (other : Command) × Asks words other × Finished other given after before taken → Asks words command
+      → Finished command given after before taken → Asks words command
       → IfSome given (λ bytes. Decides command bytes answer → IsOrMemory status.Done (answer_status answer))
   finished-decided words command None after before taken answer finished asks = tt
-  finished-decided words command (Some bytes) after before taken answer finished asks =
-      λ decides. go (finished-at words command (Some bytes) after before taken finished asks) decides
-    where
-      go : Finished command (Some bytes) after before taken → Decides command bytes answer → IsOrMemory status.Done (answer_status answer)
-      go f decides = inl (ap answer_status (decides-one differ command bytes None answer (makes-decides command bytes f.written f.makes f.read.0) decides))
+  finished-decided words command (Some bytes) after before taken answer f asks =
+      λ decides. inl (ap answer_status (decides-one differ command bytes None answer (makes-decides words command bytes f.written asks f.makes f.read.0) decides))

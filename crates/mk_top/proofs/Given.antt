@@ -4,7 +4,7 @@ use Rattle.std.specs.Prelude.{option_map}
 use Rattle.mk_base.specs.Streams.{ReadsAll}
 use Rattle.mk_top.specs.declared.fault.Fault.{Fault}
 use Rattle.mk_top.specs.declared.fault.Fault.TheVariants as fault_
-use Rattle.mk_top.specs.Words.{Command, Compile, Check, Eval, Run, GivenTape}
+use Rattle.mk_top.specs.Words.{Command, Compile, Check, Eval, Run, Count, Report, Gen, Trial, GivenTape}
 use Rattle.mk_code.specs.Listing.{Listing}
 use Rattle.mk_code.specs.Private.{Private}
 use Rattle.mk_rules.specs.Claimed.{Claimed}
@@ -26,9 +26,12 @@ use Rattle.mk_ast.specs.declared.refusal.SourceRefusal.{SourceRefusal}
 use Rattle.mk_ast.specs.declared.refusal.SourceRefusal.TheVariants as refused
 use Rattle.mk_run.specs.declared.refusal.RunRefusal.{RunRefusal}
 use Rattle.mk_run.specs.declared.refusal.RunRefusal.TheVariants as run
+use Rattle.mk_run.specs.declared.refusal.CountRefusal.{CountRefusal}
+use Rattle.mk_run.specs.declared.refusal.CountRefusal.TheVariants as count
+use Rattle.mk_run.specs.Refusals.{count_refusal}
 use Rattle.mk_code.specs.Private.{masked_trace}
 use Rattle.mk_top.specs.Runs.{Runs, tape_of, whole_refusal, run_text}
-use Rattle.mk_top.specs.Faults.{fault_of_source, fault_of_eval, fault_of_run, status_of}
+use Rattle.mk_top.specs.Faults.{fault_of_source, fault_of_eval, fault_of_run, fault_of_count, status_of}
 use Rattle.mk_top.specs.Running.{NotMade, NoText}
 use Rattle.mk_top.proofs.Causes.{IsLimitOrIndex, cause-kind}
 use Rattle.mk_top.proofs.Texts.{short-text}
@@ -188,6 +191,18 @@ answer-of-run ps ss tape (Some r) f e = let same : fault_of_run r ≡ f = cc in 
     by (run.TapeShort given wanted) = tt
     by run.Memory = tt
 
+-- the fault of a refused count has one of the answers of `count`
+answer-of-count : (ps one two qs : List ℕ) (r : Option CountRefusal) (f : Fault) → Some f ≡ option_map fault_of_count r → IsAnswerOf (Count ps one two qs) (status_of f)
+answer-of-count ps one two qs None f e = absurd cc
+answer-of-count ps one two qs (Some r) f e = let same : fault_of_count r ≡ f = cc in subst (λ (g : Fault). IsAnswerOf (Count ps one two qs) (status_of g)) same (by r)
+  where
+    by : (r : CountRefusal) → IsAnswerOf (Count ps one two qs) (status_of (fault_of_count r))
+    by (count.Length given wanted) = tt
+    by (count.Element which index) = tt
+    by (count.Probe index) = tt
+    by (count.Tapes elements) = tt
+    by count.Memory = tt
+
 -- a fault that the bytes decide under a command has one of its answers
 answer-of : (command : Command) (bytes : List ℕ) (fault : Fault) → TextDecides command bytes (Some fault) → IsAnswerOf command (status_of fault)
 answer-of (Compile order) bytes (fault_.Source why) decides = tt
@@ -200,6 +215,14 @@ answer-of (Eval ps ss) bytes (fault_.Source why) decides = tt
 answer-of (Eval ps ss) bytes f decides = answer-of-eval ps ss (refusal decides.0 ps ss) f decides.3
 answer-of (Run ps ss tape) bytes (fault_.Bundle line) decides = tt
 answer-of (Run ps ss tape) bytes f decides = answer-of-run ps ss tape (whole_refusal decides.0 ps ss (tape_of decides.0 tape)) f decides.4
+answer-of (Count ps one two qs) bytes (fault_.Bundle line) decides = tt
+answer-of (Count ps one two qs) bytes f decides = answer-of-count ps one two qs (count_refusal decides.0 ps one two qs) f decides.4
+answer-of Report bytes (fault_.Check why) decides = tt
+answer-of Report bytes (fault_.Bundle line) decides = tt
+answer-of Report bytes f decides = absurd decides.4
+answer-of (Gen turns) bytes f decides = absurd cc
+answer-of (Trial turns order) bytes (fault_.Source why) decides = tt
+answer-of (Trial turns order) bytes f decides = absurd decides
 
 -- why nothing was made of the text, said of the input
 not_made-given : (command : Command) (given after : Option (List ℕ)) (reads then_reads : ℕ) (bytes : List ℕ) (fault : Fault)
@@ -216,6 +239,8 @@ not_made-given command given after reads then_reads bytes (fault_.Bundle line) w
 not_made-given command given after reads then_reads bytes fault_.ReadFault within read why = absurd why
 not_made-given command given after reads then_reads bytes fault_.WriteFault within read why = why
 not_made-given command given after reads then_reads bytes fault_.Memory within read why = tt
+not_made-given command given after reads then_reads bytes (fault_.Tapes elements) within read why =
+    (decides-given given after bytes (λ bs. TextDecides command bs (Some (fault_.Tapes elements))) read why, read-given given after bytes (limit_of command) within read, answer-of command bytes (fault_.Tapes elements) why)
 not_made-given command given after reads then_reads bytes (fault_.TooLong at) within read why = absurd why
 
 -- the same of an answer

@@ -8,3 +8,7 @@ pub mod Ends
 pub mod Digits
 pub mod Taken
 pub mod Lines
+pub mod Tried
+pub mod Decimals
+pub mod Counted
+pub mod Reported

@@ -11,6 +11,8 @@ use Rattle.mk_eval.specs.declared.refusal.EvalRefusal.{EvalRefusal}
 use Rattle.mk_eval.specs.declared.refusal.EvalRefusal.TheVariants as eval
 use Rattle.mk_run.specs.declared.refusal.RunRefusal.{RunRefusal}
 use Rattle.mk_run.specs.declared.refusal.RunRefusal.TheVariants as run
+use Rattle.mk_run.specs.declared.refusal.CountRefusal.{CountRefusal}
+use Rattle.mk_run.specs.declared.refusal.CountRefusal.TheVariants as count
 use Rattle.mk_check.specs.declared.refusal.CheckRefusal.{CheckRefusal}
 use Rattle.mk_check.specs.declared.refusal.CheckRefusal.TheVariants as refused
 use Rattle.mk_bundle.specs.Words.{operand_word}
@@ -73,6 +75,14 @@ fault_of_run (run.Element which index) = fault.Inputs (input.Element which index
 fault_of_run (run.TapeShort given wanted) = fault.Inputs (input.TapeShort given wanted)
 fault_of_run run.Memory = fault.Memory
 
+-- the fault of a refused count
+abbrev pub fault_of_count : CountRefusal → Fault
+fault_of_count (count.Length given wanted) = fault.Inputs (input.Length given wanted)
+fault_of_count (count.Element which index) = fault.Inputs (input.Element which index)
+fault_of_count (count.Probe index) = fault.Inputs (input.Probe index)
+fault_of_count (count.Tapes elements) = fault.Tapes elements
+fault_of_count count.Memory = fault.Memory
+
 -- the fault of a refused code and certificate
 abbrev pub fault_of_check : CheckRefusal → Fault
 fault_of_check (refused.Operand block) = fault.Check (check.Operand block)
@@ -91,6 +101,7 @@ status_of (fault.Bundle line) = status.Bundle
 status_of fault.ReadFault = status.ReadFault
 status_of fault.WriteFault = status.WriteFault
 status_of fault.Memory = status.Memory
+status_of (fault.Tapes elements) = status.Tapes
 status_of (fault.TooLong limit) = status.TooLong
 
 -- a line that ends in a place
@@ -131,6 +142,7 @@ abbrev pub input_line : InputFault → List ℕ
 input_line (input.Length given wanted) = codes "51 length " ++ decimal given ++ codes " " ++ decimal wanted ++ 10 ∷ []
 input_line (input.Element which index) = numbered_line (element_head which) index
 input_line (input.TapeShort given wanted) = codes "53 tape " ++ decimal given ++ codes " " ++ decimal wanted ++ 10 ∷ []
+input_line (input.Probe index) = numbered_line (codes "54 probe ") index
 
 -- the line of a code and certificate that are refused
 abbrev pub check_line : CheckFault → List ℕ
@@ -149,4 +161,5 @@ fault_line (fault.Bundle line) = numbered_line (codes "41 bundle ") line
 fault_line fault.ReadFault = codes "6 read fault\n"
 fault_line fault.WriteFault = codes "7 write fault\n"
 fault_line fault.Memory = codes "8 memory\n"
+fault_line (fault.Tapes elements) = numbered_line (codes "91 tapes ") elements
 fault_line (fault.TooLong limit) = numbered_line (codes "10 too long ") limit

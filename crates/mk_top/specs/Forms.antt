@@ -1,8 +1,8 @@
 -- What the words ask for, with the words of elements as they stand.
-use Rattle.std.specs.Prelude.{◌≡◌, ◌<◌, ◌^◌, ℕ, List, [], ◌∷◌, length, codes}
+use Rattle.std.specs.Prelude.{◌≡◌, ◌<◌, ◌^◌, ℕ, List, [], ◌∷◌, length, codes, decimal}
 use Rattle.mk_top.specs.declared.command.Form.{Form}
 use Rattle.mk_top.specs.declared.command.Form.TheVariants as form
-use Rattle.mk_top.specs.Words.{Command, Compile, Check, Eval, Run, GivenTape, Seed, Tape, SaysElements, SaysSeed, Asks}
+use Rattle.mk_top.specs.Words.{Command, Compile, Check, Eval, Run, Count, Report, Gen, Trial, GivenTape, Seed, Tape, SaysElements, SaysSeed, SaysProbes, Asks}
 use Rattle.mk_top.specs.declared.command.TapeForm.{TapeForm}
 use Rattle.mk_top.specs.declared.command.TapeForm.TheVariants as tape_
 use Rattle.mk_top.specs.declared.runs.WholeTape.{WholeTape}
@@ -11,6 +11,14 @@ use Rattle.mk_top.specs.declared.runs.WholeTape.TheVariants as whole
 -- the word says some elements
 abbrev pub AreElements : List ℕ → Type 0
 AreElements word = (elements : List ℕ) × SaysElements word elements
+
+-- the word is a decimal number below 2^32
+abbrev pub IsNumber : List ℕ → Type 0
+IsNumber word = (number : ℕ) × (word ≡ decimal number) × (number < 2 ^ 32)
+
+-- the word says some probes
+abbrev pub AreProbes : List ℕ → Type 0
+AreProbes word = (probes : List ℕ) × SaysProbes word probes
 
 -- the word of a tape says elements, where there is one
 abbrev pub IsTapeForm : TapeForm → Type 0
@@ -31,6 +39,13 @@ AsksSo words (form.Eval publics secrets) =
 AsksSo words (form.Run publics secrets tape) =
     (kind word : List ℕ) × (words ≡ codes "run" ∷ publics.now ∷ secrets.now ∷ kind ∷ word ∷ [])
     × (AreElements publics.now × (length publics.now < 2 ^ 32)) × (AreElements secrets.now × (length secrets.now < 2 ^ 32)) × SaysTapeSo kind word tape
+AsksSo words (form.Count publics first second probes) =
+    (words ≡ codes "count" ∷ publics.now ∷ first.now ∷ second.now ∷ probes.now ∷ [])
+    × (AreElements publics.now × (length publics.now < 2 ^ 32)) × (AreElements first.now × (length first.now < 2 ^ 32))
+    × (AreElements second.now × (length second.now < 2 ^ 32)) × (AreProbes probes.now × (length probes.now < 2 ^ 32))
+AsksSo words form.Report = Asks words Report
+AsksSo words (form.Gen turns) = Asks words (Gen turns)
+AsksSo words (form.Trial turns order) = Asks words (Trial turns order)
 
 -- this holds of the evaluation on the elements that two words say
 abbrev pub OfElements : List ℕ → List ℕ → (Command → Type 0) → Type 0
@@ -45,6 +60,12 @@ IsGivenBy (tape_.Elements word) given = (elements : List ℕ) × SaysElements wo
 abbrev pub OfRun : List ℕ → List ℕ → TapeForm → (Command → Type 0) → Type 0
 OfRun first second tape P =
     (publics secrets : List ℕ) × (given : GivenTape) × SaysElements first publics × SaysElements second secrets × IsGivenBy tape given × P (Run publics secrets given)
+
+-- this holds of the count on the elements and probes that four words say
+abbrev pub OfCount : List ℕ → List ℕ → List ℕ → List ℕ → (Command → Type 0) → Type 0
+OfCount word one two seen P =
+    (publics first second probes : List ℕ) × SaysElements word publics × SaysElements one first × SaysElements two second × SaysProbes seen probes
+    × P (Count publics first second probes)
 
 -- the tape of a run, where its elements are decoded
 abbrev pub given_of : WholeTape → GivenTape

@@ -1,11 +1,11 @@
 -- What the steps of a run answer, for the functions that carry them out.
-use Rattle.std.specs.Prelude.{◌≡◌, ℕ, ◌<◌, List, Option, Some, IfSome, length}
+use Rattle.std.specs.Prelude.{◌≡◌, ◌⊎◌, ℕ, ◌<◌, List, Option, Some, IfSome, length}
 use Rattle.mk_base.specs.Outside.{Rose}
 use Rattle.mk_base.specs.Streams.{CameWithin}
 use Rattle.mk_top.specs.declared.fault.Fault.{Fault}
 use Rattle.mk_top.specs.declared.fault.Fault.TheVariants.{Words, Source, ReadFault, WriteFault, Memory, TooLong}
 use Rattle.mk_top.specs.Words.{Command, Asks, IsNoForm}
-use Rattle.mk_top.specs.Answers.{ReadWhole, Makes, SourceDecides, TextDecides, Decides, limit_of, TakesWhole, TakesSome, IsAnswerOf}
+use Rattle.mk_top.specs.Answers.{ReadWhole, Makes, SourceDecides, TextDecides, Decides, limit_of, input_of, Reads, TakesWhole, TakesSome, IsAnswerOf}
 use Rattle.mk_top.specs.Faults.{status_of}
 
 -- why a text was not read, by the input's bytes before and after and its count of faults before and after
@@ -34,10 +34,10 @@ NotMade command bytes fault = TextDecides command bytes (Some fault)
 -- faults before and after
 abbrev pub NoText : Command → Option (List ℕ) → Option (List ℕ) → ℕ → ℕ → Fault → Type 0
 NoText command given after reads then_reads Words = ⊥
-NoText command given after reads then_reads ReadFault = Rose reads then_reads × IfSome given (λ bytes. CameWithin (limit_of command) bytes after)
+NoText command given after reads then_reads ReadFault = Reads command × Rose reads then_reads × IfSome given (λ bytes. CameWithin (limit_of command) bytes after)
 NoText command given after reads then_reads WriteFault = ⊥
 NoText command given after reads then_reads Memory = Unit {0}
-NoText command given after reads then_reads (TooLong at) = IfSome given (λ bytes. Decides command bytes (Some (TooLong at)))
+NoText command given after reads then_reads (TooLong at) = Reads command × IfSome given (λ bytes. Decides command bytes (Some (TooLong at)))
 NoText command given after reads then_reads fault =
     IfSome given (λ bytes. TextDecides command bytes (Some fault)) × ReadWhole (limit_of command) given after × IsAnswerOf command (status_of fault)
 
@@ -65,4 +65,9 @@ StoppedAt command given after reads then_reads before taken writes then_writes f
 abbrev pub Stopped : List (List ℕ) → Option (List ℕ) → Option (List ℕ) → ℕ → ℕ → Option (List ℕ) → Option (List ℕ) → ℕ → ℕ → Fault → Type 0
 Stopped words given after reads then_reads before taken writes then_writes Words = IsNoForm words
 Stopped words given after reads then_reads before taken writes then_writes fault =
-    (command : Command) × Asks words command × StoppedAt command given after reads then_reads before taken writes then_writes fault
+    (command : Command) × Asks words command
+    × StoppedAt command (input_of command given) (input_of command after) reads then_reads before taken writes then_writes fault
+
+-- a command that was asked for reads its input, or left it as it was
+abbrev pub ReadsOrLeaves : List (List ℕ) → Type 0 → Type 0
+ReadsOrLeaves words left = IsNoForm words ⊎ ((command : Command) × Asks words command × (Reads command ⊎ left))

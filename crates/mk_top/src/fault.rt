@@ -10,7 +10,7 @@ use mk_base::{Memory, Place, Which};
 use mk_bundle::BundleRefusal;
 use mk_check::CheckRefusal;
 use mk_eval::EvalRefusal;
-use mk_run::RunRefusal;
+use mk_run::{CountRefusal, RunRefusal};
 use mk_ssa::Operand;
 
 /// Why a source is refused, with the place where.
@@ -43,6 +43,9 @@ pub enum InputFault {
     Element { which: Which, index: u32 },
     /// The whole tape has so many elements, and at least so many are wanted.
     TapeShort { given: u32, wanted: u32 },
+    /// There are more probes than this number, the order; or the probe of this number, from 0, is no place
+    /// of the trace.
+    Probe { index: u32 },
 }
 
 /// Why a code with its certificate is refused.
@@ -77,6 +80,8 @@ pub enum Fault {
     WriteFault,
     /// Memory was wanted and not found.
     Memory,
+    /// There are too many tapes to count, of so many elements each.
+    Tapes { elements: u32 },
     /// More bytes came than this limit.
     TooLong { limit: u32 },
 }
@@ -192,6 +197,27 @@ impl From<RunRefusal> for Fault {
     }
 }
 
+impl From<CountRefusal> for Fault {
+    ghost use Rattle.std.specs.Prelude.{◌≡◌};
+    ghost use Rattle.mk_top.specs.Faults.{fault_of_count};
+
+    ghost from_gives = { λ refusal fault. fault ≡ fault_of_count refusal };
+
+    fn from(refusal: CountRefusal) -> Fault {
+        match refusal {
+            CountRefusal::Length { given, wanted } => {
+                Fault::Inputs(InputFault::Length { given, wanted })
+            }
+            CountRefusal::Element { which, index } => {
+                Fault::Inputs(InputFault::Element { which, index })
+            }
+            CountRefusal::Probe { index } => Fault::Inputs(InputFault::Probe { index }),
+            CountRefusal::Tapes { elements } => Fault::Tapes { elements },
+            CountRefusal::Memory => Fault::Memory,
+        }
+    }
+}
+
 impl SourceFault {
     /// Its line, with the line feed.
     fn line(self) -> FaultLine
@@ -232,6 +258,7 @@ impl InputFault {
             InputFault::Length { given, wanted } => paired("51 length ", given, " ", wanted),
             InputFault::Element { which, index } => numbered(element_head(which), index),
             InputFault::TapeShort { given, wanted } => paired("53 tape ", given, " ", wanted),
+            InputFault::Probe { index } => numbered("54 probe ", index),
         }
     }
 }
@@ -288,6 +315,7 @@ impl Fault {
             Fault::ReadFault => Status::ReadFault,
             Fault::WriteFault => Status::WriteFault,
             Fault::Memory => Status::Memory,
+            Fault::Tapes { elements: _ } => Status::Tapes,
             Fault::TooLong { limit: _ } => Status::TooLong,
         }
     }
@@ -305,6 +333,7 @@ impl Fault {
             Fault::ReadFault => fixed("6 read fault\n"),
             Fault::WriteFault => fixed("7 write fault\n"),
             Fault::Memory => fixed("8 memory\n"),
+            Fault::Tapes { elements } => numbered("91 tapes ", elements),
             Fault::TooLong { limit } => numbered("10 too long ", limit),
         }
     }

@@ -24,7 +24,7 @@ fn sum_of(elements: &[u8]) -> u8
 }
 
 /// Appends the word of some elements.
-fn push_word(alloc: Global, text: &mut String, elements: &[u8]) -> Result<(), Memory>
+pub(crate) fn push_word(alloc: Global, text: &mut String, elements: &[u8]) -> Result<(), Memory>
     ensures { OnOk result (string_bytes text.new ≡ string_bytes text.old ++ elements_word elements.now) }
 {
     if elements.is_empty() {
@@ -88,7 +88,7 @@ pub(crate) fn outputs_text(alloc: Global, code: &Code, entries: &[u8]) -> Result
 }
 
 /// The bytes of a text. No list has memory for 2^32 bytes.
-fn bytes_of(text: String) -> Result<Bytes, Memory>
+pub(crate) fn bytes_of(text: String) -> Result<Bytes, Memory>
     ensures { IfOk result (λ bytes. bytes ≡ string_bytes text) }
 {
     let bytes = text.into_bytes();

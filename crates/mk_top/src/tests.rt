@@ -4,7 +4,9 @@ ghost use Rattle.std.specs.Prelude.{None};
 
 mod bundles;
 mod compilations;
+mod counts;
 mod evaluations;
+mod reports;
 mod runs;
 mod sources;
 
@@ -78,6 +80,16 @@ fn answers(
     )
 }
 
+/// Whether the words are carried out on this input, and the output's last bytes are these.
+fn ends_with(alloc: Global, words: &[&str], input: &[u8], end: &str) -> Result<bool, Memory> {
+    let words = words_of(alloc, words)?;
+    let mut src = MemSource::new(alloc, input, 4096, &[])?;
+    let mut out = MemSink::new(alloc, 4096, 4096, &[])?;
+    let mut err = MemSink::new(alloc, 4096, 4096, &[])?;
+    let status = mask_main(alloc, &words, &mut src, &mut out, &mut err);
+    Ok(status == Status::Done && out.taken().ends_with(end.as_bytes()))
+}
+
 #[test]
 fn other_words_are_refused(rt: HostRuntime) -> Result<(), Memory> {
     let alloc = rt.alloc();
@@ -86,7 +98,7 @@ fn other_words_are_refused(rt: HostRuntime) -> Result<(), Memory> {
         out: "",
         err: "21 words\n",
     };
-    let rows: [&[&str]; 9] = [
+    let rows: [&[&str]; 17] = [
         &["compile", "0"],
         &["compile", "9"],
         &["compile", "01"],
@@ -96,6 +108,14 @@ fn other_words_are_refused(rt: HostRuntime) -> Result<(), Memory> {
         &["check", "1"],
         &["check", "check"],
         &["Check"],
+        &["report", "1"],
+        &["gen", "0"],
+        &["gen", "3277"],
+        &["gen", "01"],
+        &["gen"],
+        &["trial", "0", "1"],
+        &["trial", "1", "9"],
+        &["count", "-", "00", "01"],
     ];
     // The first read would fail: nothing is read.
     let unread = Outside {

@@ -19,7 +19,7 @@ pub(super) const REFRESHED: &str =
     "mask 1\nfield gf2\norder 1\nsecrets 1\npublics 0\nblock refresh s0\nblock mul b0 s0\nclaim b1\ncode\nrnd\nadd 0 2\nadd 1 2\nrnd\nmul 3 1\nadd 5 6\nmul 4 0\nadd 7 8\nmul 3 0\nadd 10 5\nmul 4 1\nadd 12 9\nout 11 13\nend\n";
 
 /// The same without the refresh.
-const DOUBLED: &str =
+pub(super) const DOUBLED: &str =
     "mask 1\nfield gf2\norder 1\nsecrets 1\npublics 0\nblock mul s0 s0\nclaim b0\ncode\nrnd\nmul 0 1\nadd 2 3\nmul 1 0\nadd 4 5\nmul 0 0\nadd 7 2\nmul 1 1\nadd 9 6\nout 8 10\nend\n";
 
 /// A refresh that isn't needed, and a block that nothing uses.

@@ -13,7 +13,7 @@ use mk_rules::Bundle;
 use std::alloc::Global;
 use std::test::*;
 
-const WIDE: Outside<'static> = Outside {
+pub(super) const WIDE: Outside<'static> = Outside {
     piece: 4096,
     reads: &[],
     writes: &[],
@@ -117,7 +117,7 @@ fn other_programs_are_compiled(rt: HostRuntime) -> Result<(), Memory> {
 }
 
 /// The code and certificate that a source is compiled to at an order, and their text.
-fn compiled(alloc: Global, source: &str, order: u8) -> Result<(Bundle, Bytes), Fail> {
+pub(super) fn compiled(alloc: Global, source: &str, order: u8) -> Result<(Bundle, Bytes), Fail> {
     if order == 0 || order > 8 || source.len() > 1_048_576 {
         return Err("the order and the length are in range".into());
     }

@@ -1,7 +1,9 @@
 //! Rows of `run`: the shares and values of the outputs, and why inputs and tapes are refused.
 
 use super::bundles::PRODUCT;
-use super::{Answer, CALM, SUM_BUNDLE, answers};
+use super::compilations::compiled;
+use super::evaluations::SBOX;
+use super::{Answer, CALM, SUM_BUNDLE, answers, ends_with};
 use crate::Status;
 use mk_base::Memory;
 use std::alloc::Global;
@@ -48,6 +50,18 @@ fn runs_give_the_shares_and_values_of_outputs(rt: HostRuntime) -> Result<(), Mem
             )?
         );
     }
+    Ok(())
+}
+
+#[test]
+fn masked_code_of_the_sbox_gives_shares_of_its_value(rt: HostRuntime) -> Result<(), Fail> {
+    // FIPS 197, section 5.1.1: the S-box at 53 is ed.
+    let (_bundle, text) = compiled(rt.alloc(), SBOX, 2)?;
+    let words = ["run", "-", "53", "seed", ZEROS];
+    let is_value = ends_with(rt.alloc(), &words, text.as_slice(), " ed\n")
+        .ok()
+        .ok_or("there is memory")?;
+    assert!(rt; is_value);
     Ok(())
 }
 

@@ -1,10 +1,10 @@
 -- Each way that a run ends has one answer.
 use Rattle.std.proofs.Common.{IfSome, sym, ◌∙◌, subst}
 use Rattle.mk_bundle.proofs.Naming.{differ}
-use Rattle.mk_top.specs.Words.{Compile, Eval, Run}
+use Rattle.mk_top.specs.Words.{Compile, Eval, Run, Count, Report, Gen, Trial}
 use Rattle.mk_top.specs.declared.status.Status.{Status}
-use Rattle.mk_top.specs.Answers.{Decides, IsOrMemory, answer_status}
-use Rattle.mk_top.proofs.Ends.{finished-at, stopped-at, stopped-cut, stopped-because, stopped-decided, finished-decided}
+use Rattle.mk_top.specs.Answers.{Decides, IsOrMemory, answer_status, input_of, IsAnswerOf}
+use Rattle.mk_top.proofs.Ends.{finished-at, stopped-at, stopped-cut, stopped-because, stopped-decided, stopped-answer, finished-decided, left-unread}
 use Rattle.mk_top.proofs.top.mask_main.Goals as goal
 
 pub returns-in-Ok-clause-compiled : goal.returns-in-Ok-clause-compiled
@@ -22,9 +22,35 @@ returns-in-Ok-clause-ran g c publics secrets tape asks done =
     let at = finished-at _ (Run publics secrets tape) _ _ _ _ c.in-Ok.ensures.finished asks in
     (at.written, at.makes, at.whole)
 
+pub returns-in-Ok-clause-counted : goal.returns-in-Ok-clause-counted
+returns-in-Ok-clause-counted g c publics first second probes asks done =
+    let at = finished-at _ (Count publics first second probes) _ _ _ _ c.in-Ok.ensures.finished asks in
+    (at.written, at.makes, at.whole)
+
+pub returns-in-Ok-clause-reported : goal.returns-in-Ok-clause-reported
+returns-in-Ok-clause-reported g c asks done =
+    let at = finished-at _ Report _ _ _ _ c.in-Ok.ensures.finished asks in
+    (at.written, at.makes, at.whole)
+
+pub returns-in-Ok-clause-generated : goal.returns-in-Ok-clause-generated
+returns-in-Ok-clause-generated g c turns asks done =
+    let at = finished-at _ (Gen turns) (g.S.Source.left c.args.src.now) (g.S.Source.left c.run.new.src) _ _ c.in-Ok.ensures.finished asks in
+    (at.written, at.makes, at.whole)
+
+pub returns-in-Ok-clause-tried : goal.returns-in-Ok-clause-tried
+returns-in-Ok-clause-tried g c turns order asks done =
+    let at = finished-at _ (Trial turns order) (g.S.Source.left c.args.src.now) (g.S.Source.left c.run.new.src) _ _ c.in-Ok.ensures.finished asks in
+    (at.written, at.makes, at.whole)
+
+pub returns-in-Ok-clause-unread : goal.returns-in-Ok-clause-unread
+returns-in-Ok-clause-unread g c command asks unread = left-unread _ command _ c.run.ensures.leaves asks unread
+
+pub returns-in-Err-clause-unread : goal.returns-in-Err-clause-unread
+returns-in-Err-clause-unread g c command asks unread = left-unread _ command _ c.run.ensures.leaves asks unread
+
 pub returns-in-Ok-clause-decided : goal.returns-in-Ok-clause-decided
 returns-in-Ok-clause-decided g c command answer asks calm still =
-    finished-decided differ _ command _ _ _ _ answer c.in-Ok.ensures.finished asks
+    finished-decided differ _ command _ _ _ _ answer (finished-at _ command _ _ _ _ c.in-Ok.ensures.finished asks) asks
 
 pub returns-in-Err-clause-cut : goal.returns-in-Err-clause-cut
 returns-in-Err-clause-cut g c command asks is =
@@ -39,5 +65,10 @@ returns-in-Err-clause-because g c command asks done =
 pub returns-in-Err-clause-decided : goal.returns-in-Err-clause-decided
 returns-in-Err-clause-decided g c command answer asks calm still =
     let at = stopped-at _ _ _ _ _ _ _ _ _ command c.in-Err.fault asks c.in-Err.ensures.stopped in
-    subst (λ (s : Status). IfSome (g.S.Source.left c.args.src.now) (λ bytes. Decides command bytes answer → IsOrMemory s (answer_status answer))) (sym c.status.ensures)
-    (stopped-decided differ command _ _ _ _ _ _ _ _ c.in-Err.fault answer at calm still)
+    subst (λ (s : Status). IfSome (input_of command (g.S.Source.left c.args.src.now)) (λ bytes. Decides command bytes answer → IsOrMemory s (answer_status answer))) (sym c.status.ensures)
+    (stopped-decided differ _ command _ _ _ _ _ _ _ _ c.in-Err.fault answer asks at calm still)
+
+pub returns-in-Err-clause-answers : goal.returns-in-Err-clause-answers
+returns-in-Err-clause-answers g c command asks =
+    let at = stopped-at _ _ _ _ _ _ _ _ _ command c.in-Err.fault asks c.in-Err.ensures.stopped in
+    subst (IsAnswerOf command) (sym c.status.ensures) (stopped-answer command _ _ _ _ _ _ _ _ c.in-Err.fault at)

@@ -1,0 +1,102 @@
+//! Counts: a bundle read, and the tapes of its code counted in two worlds.
+
+ghost use Rattle.std.specs.Prelude.{◌≡◌, ◌++◌, ◌≤◌, ◌<◌, ◌^◌, Some, IfOk, IfErr, OnOk, length, string_bytes, nat_eq, flat_map};
+ghost use Rattle.std.specs.List.{list_all};
+ghost use Rattle.mk_top.specs.Words.{Count};
+ghost use Rattle.mk_top.specs.Counts.{Counts, row_line, table_text};
+ghost use Rattle.mk_top.specs.Answers.{ReadWhole, limit_of};
+ghost use Rattle.mk_top.specs.Running.{NotMade, NoText};
+
+use crate::fault::Fault;
+use crate::outputs::{bytes_of, push_word};
+use crate::reading::{BUNDLE_LIMIT, whole_text};
+use mk_base::{Bytes, Memory, Source};
+use mk_bundle::read_bundle;
+use mk_run::{Row, count};
+use std::alloc::Global;
+
+/// Appends the line of a row.
+fn push_row(alloc: Global, text: &mut String, row: &Row) -> Result<(), Memory>
+    ensures { OnOk result (string_bytes text.new ≡ string_bytes text.old ++ row_line row.now) }
+{
+    push_word(alloc, text, row.seen.as_slice())?;
+    let (first, second) = (row.first, row.second);
+    write!(text, " {first} {second}\n")?;
+    Ok(())
+}
+
+/// Whether every row has the same number in both worlds.
+fn are_equal(rows: &[Row]) -> bool
+    ensures { result ≡ list_all (λ row. nat_eq row.first row.second) rows.now }
+{
+    rows.iter().all(|row| row.first == row.second)
+}
+
+/// Appends the lines of rows.
+fn push_rows(alloc: Global, text: &mut String, rows: &[Row]) -> Result<(), Memory>
+    ensures { OnOk result (string_bytes text.new ≡ string_bytes text.old ++ flat_map row_line rows.now) }
+{
+    for row in rows {
+        push_row(alloc, text, row)?;
+    }
+    Ok(())
+}
+
+/// The lines of a table.
+fn table_lines(alloc: Global, rows: &[Row]) -> Result<Bytes, Memory>
+    ensures { IfOk result (λ bytes. bytes ≡ table_text rows.now) }
+{
+    let mut text = String::new(alloc);
+    push_rows(alloc, &mut text, rows)?;
+    let verdict = if are_equal(rows) {
+        "equal\n"
+    } else {
+        "differs\n"
+    };
+    text.push_str(verdict)?;
+    bytes_of(text)
+}
+
+/// The lines of the table of the code of a bundle that a text spells.
+fn count_of(
+    alloc: Global,
+    text: &[u8],
+    publics: &[u8],
+    first: &[u8],
+    second: &[u8],
+    probes: &[u32],
+) -> Result<Bytes, Fault>
+    requires within { length text.now ≤ 268435456 }
+    requires publics { length publics.now < 2 ^ 32 }
+    requires first { length first.now < 2 ^ 32 }
+    requires second { length second.now < 2 ^ 32 }
+    requires probes { length probes.now < 2 ^ 32 }
+    ensures counts { IfOk result (Counts publics.now first.now second.now probes.now (Some text.now)) }
+    ensures fault { IfErr result (NotMade (Count publics.now first.now second.now probes.now) text.now) }
+{
+    let bundle = read_bundle(alloc, text)?;
+    let table = count(alloc, &bundle.code, publics, first, second, probes)?;
+    Ok(table_lines(alloc, table.as_slice())?)
+}
+
+/// Reads a bundle to its end, and answers the lines of the table of its code.
+pub(crate) fn count_bundle<S: Source>(
+    alloc: Global,
+    src: &mut S,
+    publics: &[u8],
+    first: &[u8],
+    second: &[u8],
+    probes: &[u32],
+) -> Result<Bytes, Fault>
+    requires publics { length publics.now < 2 ^ 32 }
+    requires first { length first.now < 2 ^ 32 }
+    requires second { length second.now < 2 ^ 32 }
+    requires probes { length probes.now < 2 ^ 32 }
+    ensures counts { IfOk result (Counts publics.now first.now second.now probes.now (S.left src.old)) }
+    ensures read { IfOk result (λ _. ReadWhole (limit_of (Count publics.now first.now second.now probes.now)) (S.left src.old) (S.left src.new)) }
+    ensures fault { IfErr result (NoText (Count publics.now first.now second.now probes.now) (S.left src.old) (S.left src.new) (S.faults src.old) (S.faults src.new)) }
+    ensures never_falls { S.faults src.old ≤ S.faults src.new }
+{
+    let text = whole_text(alloc, src, BUNDLE_LIMIT)?;
+    count_of(alloc, text.as_slice(), publics, first, second, probes)
+}

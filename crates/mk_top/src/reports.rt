@@ -1,0 +1,36 @@
+//! Reports: a bundle read, checked, and then reported on.
+
+ghost use Rattle.std.specs.Prelude.{◌≤◌, Some, IfOk, IfErr, length};
+ghost use Rattle.mk_top.specs.Words.{Report};
+ghost use Rattle.mk_top.specs.Answers.{Reports, ReadWhole, limit_of};
+ghost use Rattle.mk_top.specs.Running.{NotMade, NoText};
+
+use crate::fault::Fault;
+use crate::reading::{BUNDLE_LIMIT, whole_text};
+use mk_base::{Bytes, Source};
+use mk_bundle::read_bundle;
+use mk_check::check;
+use mk_report::report;
+use std::alloc::Global;
+
+/// The report of the bundle that a text spells.
+fn report_of(alloc: Global, text: &[u8]) -> Result<Bytes, Fault>
+    requires { length text.now ≤ 268435456 }
+    ensures reports { IfOk result (Reports (Some text.now)) }
+    ensures fault { IfErr result (NotMade Report text.now) }
+{
+    let bundle = read_bundle(alloc, text)?;
+    check(alloc, &bundle.code, &bundle.cert)?;
+    Ok(report(alloc, &bundle.code, &bundle.cert)?)
+}
+
+/// Reads a bundle to its end, checks it, and answers its report.
+pub(crate) fn report_bundle<S: Source>(alloc: Global, src: &mut S) -> Result<Bytes, Fault>
+    ensures reports { IfOk result (Reports (S.left src.old)) }
+    ensures read { IfOk result (λ _. ReadWhole (limit_of Report) (S.left src.old) (S.left src.new)) }
+    ensures fault { IfErr result (NoText Report (S.left src.old) (S.left src.new) (S.faults src.old) (S.faults src.new)) }
+    ensures never_falls { S.faults src.old ≤ S.faults src.new }
+{
+    let text = whole_text(alloc, src, BUNDLE_LIMIT)?;
+    report_of(alloc, text.as_slice())
+}
