@@ -4,14 +4,14 @@ use Rattle.std.specs.Cmp.{nat_eq_equiv}
 use Rattle.std.specs.List.{All, Contains, IsDistinct, list_any}
 use Rattle.std.proofs.lemmas.Bool.{cases_eq, cases_lt, cases_Bool, eqb-true}
 use Rattle.std.proofs.lemmas.List.{append_assoc, map-append}
-use Rattle.std.proofs.lemmas.List.Elements.{All-set, All-weaker, Contains-push, Contains-push_cases, Contains-append_left, Contains-append_right, Contains-append_cases}
+use Rattle.std.proofs.lemmas.List.Elements.{All-contains, All-set, All-weaker, Contains-push, Contains-push_cases, Contains-append_left, Contains-append_right, Contains-append_cases}
 use Rattle.std.proofs.lemmas.Map.Keys.{IsDistinct-push}
 use Rattle.std.proofs.lemmas.Map.Steps.{length-le_from_distinct_below}
 use Rattle.std.proofs.lemmas.Map.Views.{Contains-from_any}
 use Rattle.std.proofs.lemmas.Option.{slice_get_within, slice_get-get_or, same_Some}
 use Rattle.mk_code.specs.Listing.{Listing}
 use Rattle.mk_ssa.specs.declared.Op.{Op}
-use Rattle.mk_ssa.specs.declared.Op.TheVariants.{Mul, Refresh}
+use Rattle.mk_ssa.specs.declared.Op.TheVariants.{Const, Mul, Refresh}
 use Rattle.mk_ssa.specs.declared.Operand.{Operand}
 use Rattle.mk_ssa.specs.Kinds.{Kind, Public, Linear, Strong, kind, shared_operands}
 use Rattle.mk_rules.specs.Tiles.{value_number}
@@ -53,6 +53,10 @@ Contains-place xs x held =
 -- an element that was read
 pub was-read : (xs : List ℕ) (i x : ℕ) → i < length xs → x ≡ get_or xs i x → slice_get xs i ≡ Some x
 was-read xs i x within is = slice_get-get_or xs i x within ∙ ap (λ (y : ℕ). Some y) (sym is)
+
+-- the element of a list of one
+only-one : (x y : ℕ) → Contains (x ∷ []) y → x ≡ y
+only-one x y held = elim (Contains-cases x [] y held) [ inl same ↦ same | inr none ↦ absurd (Contains-none y none) ]
 
 -- no stamp is that of the next product where each is one before
 none-next : (stamps : List ℕ) (stamp v : ℕ) → All (λ s. s ≤ stamp) stamps → slice_get stamps v ≡ Some (stamp + 1) → ⊥
@@ -109,9 +113,9 @@ module _ (stamp : ℕ) (search : Search) (finding : IsFinding stamp search) wher
     ]
 
     -- a value that isn't among those found
-    pub added-new : (new : Search) → new.stamps.items ≡ slice_set search.stamps.items v stamp → new.found.items ≡ search.found.items ++ v ∷ []
-        → length new.stamps.items ≡ length search.stamps.items → IsAdded stamp (v ∷ []) search new
-    added-new new stamps found count = record {
+    pub added-new : (least : ℕ) → least ≤ v → (new : Search) → new.stamps.items ≡ slice_set search.stamps.items v stamp
+        → new.found.items ≡ search.found.items ++ v ∷ [] → length new.stamps.items ≡ length search.stamps.items → IsAdded stamp least (v ∷ []) search new
+    added-new least above new stamps found count = record {
       count = count;
       finding = record {
         once = subst (IsDistinct nat_eq) (sym found) (IsDistinct-push nat_eq_equiv search.found.items v finding.once fresh-apart);
@@ -122,17 +126,21 @@ module _ (stamp : ℕ) (search : Search) (finding : IsFinding stamp search) wher
       };
       more = (v ∷ [], found);
       each = λ w. (
-        λ held. Contains-append_cases search.found.items (v ∷ []) w (subst (λ (xs : List ℕ). Contains xs w) found held),
+        λ held. elim (Contains-append_cases search.found.items (v ∷ []) w (subst (λ (xs : List ℕ). Contains xs w) found held)) [
+          | inl before ↦ inl before
+          | inr one ↦ inr (one, omega (arith, above, only-one v w one))
+        ],
         λ either. subst (λ (xs : List ℕ). Contains xs w) (sym found) (elim (either) [
           | inl before ↦ Contains-append_left search.found.items (v ∷ []) w before
-          | inr one ↦ Contains-append_right search.found.items (v ∷ []) w one
+          | inr one ↦ Contains-append_right search.found.items (v ∷ []) w one.0
         ]),
       );
     }
 
 -- some values, and then others
-pub added-both : (stamp : ℕ) (xs ys : List ℕ) (old mid new : Search) → IsAdded stamp xs old mid → IsAdded stamp ys mid new → IsAdded stamp (xs ++ ys) old new
-added-both stamp xs ys old mid new first second = record {
+pub added-both : (stamp least : ℕ) (xs ys : List ℕ) (old mid new : Search) → IsAdded stamp least xs old mid → IsAdded stamp least ys mid new
+    → IsAdded stamp least (xs ++ ys) old new
+added-both stamp least xs ys old mid new first second = record {
   count = second.count ∙ first.count;
   finding = second.finding;
   more = (
@@ -141,12 +149,12 @@ added-both stamp xs ys old mid new first second = record {
   );
   each = λ v. (
     λ held. elim ((second.each v).0 held) [
-      | inr y ↦ inr (Contains-append_right xs ys v y)
-      | inl before ↦ elim ((first.each v).0 before) [ inl known ↦ inl known | inr x ↦ inr (Contains-append_left xs ys v x) ]
+      | inr y ↦ inr (Contains-append_right xs ys v y.0, y.1)
+      | inl before ↦ elim ((first.each v).0 before) [ inl known ↦ inl known | inr x ↦ inr (Contains-append_left xs ys v x.0, x.1) ]
     ],
     λ either. (second.each v).1 (elim (either) [
       | inl known ↦ inl ((first.each v).1 (inl known))
-      | inr among ↦ elim (Contains-append_cases xs ys v among) [ inl x ↦ inl ((first.each v).1 (inr x)) | inr y ↦ inr y ]
+      | inr among ↦ elim (Contains-append_cases xs ys v among.0) [ inl x ↦ inl ((first.each v).1 (inr (x, among.1))) | inr y ↦ inr (y, among.1) ]
     ]),
   );
 }
@@ -201,12 +209,13 @@ pub option-there : (f : Operand → ℕ) (n : ℕ) (o : Option Operand) → ((v 
 option-there f n None all = tt
 option-there f n (Some x) all = all (f x) (Contains-first (f x) [] (f x) refl)
 
--- the search for the values that lead to w: those found do, and what leads to the first k of them is found
-pub record IsSearching (code : Listing) (blocks : List Op) (w k stamp : ℕ) (search : Search) : Type 0 where
+-- the search for the values from the number `least` on that lead to w: those found do, and of what leads to
+-- the first k of them those are found
+pub record IsSearching (code : Listing) (blocks : List Op) (w k stamp least : ℕ) (search : Search) : Type 0 where
   pub finding : IsFinding stamp search
-  pub start : Contains search.found.items w
-  pub from : (v : ℕ) → Contains search.found.items v → (path : List ℕ) × IsPath (code.secrets + code.publics) (links code blocks) v path w
-  pub closed : (i u v : ℕ) → i < k → slice_get search.found.items i ≡ Some u → Leads code blocks v u → Contains search.found.items v
+  pub start : least ≤ w → Contains search.found.items w
+  pub from : (v : ℕ) → Contains search.found.items v → (least ≤ v) × ((path : List ℕ) × IsPath (code.secrets + code.publics) (links code blocks) v path w)
+  pub closed : (i u v : ℕ) → i < k → slice_get search.found.items i ≡ Some u → Leads code blocks v u → least ≤ v → Contains search.found.items v
 
 module _ (code : Listing) (blocks : List Op) where
   abbrev inputs : ℕ
@@ -232,14 +241,15 @@ module _ (code : Listing) (blocks : List Op) where
             subst (λ (kd : Kind). Contains (map (value_number code) (if_linear kd (shared_operands op))) v) (sym is.0) is.1,
       )
 
-  -- what leads to a value is there
-  pub leads-there : Wired code blocks → (v u : ℕ) → Leads code blocks v u → v < inputs + length blocks
-  leads-there wired v u leads =
-      let at = links-from code blocks leads.0 (λ link. (link.kind ≡ Linear) × Contains link.shared v) leads.2 in
-      let before : v < inputs + leads.0 =
-      wired-ordered code blocks wired leads.0 v
-      (subst (λ (o : Option Link). IsSomeAnd o (λ link. Contains link.shared v)) (sym (links-at code blocks leads.0 at.0 at.1)) at.2.1) in
-      omega (arith, before, slice_get_within blocks leads.0 at.0 at.1)
+  -- what leads to a block's value is there, and comes before the block
+  leads-before : Wired code blocks → (v b : ℕ) → IsSomeAnd (slice_get (links code blocks) b) (λ link. (link.kind ≡ Linear) × Contains link.shared v)
+      → (v < inputs + b) × (b < length blocks)
+  leads-before wired v b leads =
+      let at = links-from code blocks b (λ link. (link.kind ≡ Linear) × Contains link.shared v) leads in (
+        wired-ordered code blocks wired b v
+            (subst (λ (o : Option Link). IsSomeAnd o (λ link. Contains link.shared v)) (sym (links-at code blocks b at.0 at.1)) at.2.1),
+        slice_get_within blocks b at.0 at.1,
+      )
 
   -- so are the operands that lead to it
   pub leading-there : Wired code blocks → (o p : Option Operand) (u n : ℕ)
@@ -248,74 +258,81 @@ module _ (code : Listing) (blocks : List Op) where
   leading-there wired o p u n all count =
       let f : Operand → ℕ = value_number code in
       let there : (v : ℕ) → Contains (map f (option_to_list o) ++ map f (option_to_list p)) v → v < n =
-      λ v held. omega (arith, leads-there wired v u ((all v).0 (subst (λ (xs : List ℕ). Contains xs v) (sym (map-append f (option_to_list o) (option_to_list p))) held)), count) in (
+      λ v held.
+      let leads : Leads code blocks v u = (all v).0 (subst (λ (xs : List ℕ). Contains xs v) (sym (map-append f (option_to_list o) (option_to_list p))) held) in
+      let before = leads-before wired v leads.0 leads.2 in
+      omega (arith, before.0, before.1, count) in (
         option-there f n o (λ v held. there v (Contains-append_left (map f (option_to_list o)) (map f (option_to_list p)) v held)),
         option-there f n p (λ v held. there v (Contains-append_right (map f (option_to_list o)) (map f (option_to_list p)) v held)),
       )
 
   -- the search has found the operand alone
-  pub searching-start : (w stamp : ℕ) (old new : Search) → old.found.items ≡ [] → IsAdded stamp (w ∷ []) old new → IsSearching code blocks w 0 stamp new
+  pub searching-start : (w stamp least : ℕ) (old new : Search) → old.found.items ≡ [] → IsAdded stamp least (w ∷ []) old new
+      → IsSearching code blocks w 0 stamp least new
   unfolding IsPath
-  searching-start w stamp old new none added = record {
+  searching-start w stamp least old new none added = record {
     finding = added.finding;
-    start = (added.each w).1 (inr (Contains-first w [] w refl));
+    start = λ above. (added.each w).1 (inr (Contains-first w [] w refl, above));
     from = λ v held. elim ((added.each v).0 held) [
       | inl before ↦ absurd (Contains-none v (subst (λ (xs : List ℕ). Contains xs v) none before))
-      | inr one ↦ elim (Contains-cases w [] v one) [ inl same ↦ ([], sym same) | inr empty ↦ absurd (Contains-none v empty) ]
+      | inr one ↦ (one.1, ([], sym (only-one w v one.0)))
     ];
     closed = λ i u v low. absurd (omega (arith, low));
   }
 
-  module _ (w k stamp : ℕ) (search : Search) (searching : IsSearching code blocks w k stamp search) where
+  module _ (w k stamp least : ℕ) (search : Search) (searching : IsSearching code blocks w k stamp least search) where
     -- one value found more has been gone back from
     pub searching-next : (u : ℕ) (values : List ℕ) (new : Search) → slice_get search.found.items k ≡ Some u → ((v : ℕ) → Contains values v ↔ Leads code blocks v u)
-        → IsAdded stamp values search new → IsSearching code blocks w (k + 1) stamp new
+        → IsAdded stamp least values search new → IsSearching code blocks w (k + 1) stamp least new
     unfolding IsPath
     searching-next u values new there all added = record {
       finding = added.finding;
-      start = (added.each w).1 (inl searching.start);
+      start = λ above. (added.each w).1 (inl (searching.start above));
       from = λ v held. elim ((added.each v).0 held) [
         | inl known ↦ searching.from v known
         | inr value ↦
-            let leads : Leads code blocks v u = (all v).0 value in
-            let path = searching.from u (Contains-at search.found.items k u there) in
-            (leads.0 ∷ path.0, (leads.2, subst (λ (x : ℕ). IsPath inputs (links code blocks) x path.0 w) leads.1 path.1))
+            let leads : Leads code blocks v u = (all v).0 value.0 in
+            let path = (searching.from u (Contains-at search.found.items k u there)).1 in
+            (value.1, (leads.0 ∷ path.0, (leads.2, subst (λ (x : ℕ). IsPath inputs (links code blocks) x path.0 w) leads.1 path.1)))
       ];
-      closed = λ i x v low at leads.
+      closed = λ i x v low at leads above.
           let last : k < length search.found.items = slice_get_within search.found.items k u there in
           let known : slice_get search.found.items i ≡ Some x =
           sym (get-front search.found.items added.more.0 i (omega (arith, low, last)))
           ∙ ap (λ (xs : List ℕ). slice_get xs i) (sym added.more.1) ∙ at in
           (added.each v).1 (elim (cases_lt i k) [
-            | inl before ↦ inl (searching.closed i x v before known leads)
+            | inl before ↦ inl (searching.closed i x v before known leads above)
             | inr late ↦
                 let own : i ≡ k = omega (arith, low, late) in
                 let same : x ≡ u = same_Some x u (sym known ∙ ap (slice_get search.found.items) own ∙ there) in
-                inr ((all v).1 (subst (Leads code blocks v) same leads))
+                inr ((all v).1 (subst (Leads code blocks v) same leads), above)
           ]);
     }
 
-    module _ (done : length search.found.items ≤ k) where
-      -- at the end each value with a path to the operand is found
-      path-found : (v : ℕ) (path : List ℕ) → IsPath inputs (links code blocks) v path w → Contains search.found.items v
+    module _ (wired : Wired code blocks) (done : length search.found.items ≤ k) where
+      -- at the end each value from the least one on with a path to the operand is found
+      path-found : (v : ℕ) (path : List ℕ) → IsPath inputs (links code blocks) v path w → least ≤ v → Contains search.found.items v
       unfolding IsPath
-      path-found v [] same = subst (Contains search.found.items) (sym same) searching.start
-      path-found v (b ∷ path) leads =
-          let place = Contains-place search.found.items (inputs + b) (path-found (inputs + b) path leads.1) in
-          searching.closed place.0 (inputs + b) v (omega (arith, place.1, done)) place.2 (b, refl, leads.0)
+      path-found v [] same above = subst (Contains search.found.items) (sym same) (searching.start (omega (arith, above, same)))
+      path-found v (b ∷ path) leads above =
+          let before = leads-before wired v b leads.0 in
+          let place = Contains-place search.found.items (inputs + b) (path-found (inputs + b) path leads.1 (omega (arith, above, before.0))) in
+          searching.closed place.0 (inputs + b) v (omega (arith, place.1, done)) place.2 (b, refl, leads.0) above
 
-      -- so the values found are those that reach the place
+      -- so the values found are those from the least one on that reach the place
       pub searched : (s place : ℕ) → IsSomeAnd (slice_get (links code blocks) s) (λ link. (link.kind ≡ Strong) × (slice_get link.shared place ≡ Some w))
-          → (v : ℕ) → Contains search.found.items v ↔ Reaches inputs (links code blocks) v s place
+          → (v : ℕ) → Contains search.found.items v ↔ ((least ≤ v) × Reaches inputs (links code blocks) v s place)
       searched s place stands v = (
-        λ held. let path = searching.from v held in record { path = path.0; operand = w; leads = path.1; strong = stands },
-        λ reaches.
+        λ held. let found = searching.from v held in (found.0, record { path = found.1.0; operand = w; leads = found.1.1; strong = stands }),
+        λ both.
+            let reaches : Reaches inputs (links code blocks) v s place = both.1 in
             let at : (l : Link) × (slice_get (links code blocks) s ≡ Some l) × ((l.kind ≡ Strong) × (slice_get l.shared place ≡ Some w)) =
             IsSomeAnd-value (slice_get (links code blocks) s) (λ link. (link.kind ≡ Strong) × (slice_get link.shared place ≡ Some w)) stands in
             let strong : (at.0.kind ≡ Strong) × (slice_get at.0.shared place ≡ Some reaches.operand) =
             subst (λ (o : Option Link). IsSomeAnd o (λ link. (link.kind ≡ Strong) × (slice_get link.shared place ≡ Some reaches.operand))) at.1 reaches.strong in
             path-found v reaches.path
-            (subst (IsPath inputs (links code blocks) v reaches.path) (same_Some reaches.operand w (sym strong.1 ∙ at.2.1)) reaches.leads),
+            (subst (IsPath inputs (links code blocks) v reaches.path) (same_Some reaches.operand w (sym strong.1 ∙ at.2.1)) reaches.leads)
+            both.0,
       )
 
   -- an operand at a place of a strong block
@@ -331,36 +348,82 @@ module _ (code : Listing) (blocks : List Op) where
         wired-ordered code blocks wired s w
         (subst (λ (o : Option Link). IsSomeAnd o (λ link. Contains link.shared w)) (sym at.1) (Contains-at at.0.shared place w at.2.1))
 
-    module _ (s : ℕ) (lefts rights : List ℕ) (left : (v : ℕ) → Contains lefts v ↔ Reaches inputs (links code blocks) v s 0)
-        (right : (v : ℕ) → Contains rights v ↔ Reaches inputs (links code blocks) v s 1) where
+    module _ (s : ℕ) (firsts seconds : List ℕ) (common : (v : ℕ) → (Contains firsts v × Contains seconds v) ↔ IsDoubled code blocks v s) where
       -- no common value, no doubled one
-      pub none-doubled : ((v : ℕ) → Contains lefts v → Contains rights v → ⊥) → (v : ℕ) → IsDoubled code blocks v s → ⊥
-      none-doubled none v doubled = none v ((left v).1 doubled.0) ((right v).1 doubled.1)
+      pub none-doubled : ((v : ℕ) → Contains firsts v → Contains seconds v → ⊥) → (v : ℕ) → IsDoubled code blocks v s → ⊥
+      none-doubled none v doubled = let both = (common v).1 doubled in none v both.0 both.1
 
       -- the first common value is the first doubled one
-      pub first-doubled : (number : ℕ) (value : Operand) → Contains lefts number → Contains rights number
-          → ((v : ℕ) → Contains lefts v → Contains rights v → number ≤ v)
+      pub first-doubled : (number : ℕ) (value : Operand) → Contains firsts number → Contains seconds number
+          → ((v : ℕ) → Contains firsts v → Contains seconds v → number ≤ v)
           → ((ops : List Op) (v : Operand) → IsSharedThere code ops v → value_number code v ≡ number → value ≡ v)
           → ((j v : ℕ) → j < s → IsDoubled code blocks v j → ⊥) → FirstDoubled code blocks value s
-      first-doubled number value at_left at_right least is before =
-          let doubled : IsDoubled code blocks number s = ((left number).0 at_left, (right number).0 at_right) in
+      first-doubled number value at_first at_second least is before =
+          let doubled : IsDoubled code blocks number s = (common number).0 (at_first, at_second) in
           let found : HasValue code blocks number = reaches-there code blocks wired number s 0 doubled.0 in
           let same : found.value ≡ value = sym (is blocks found.value found.there found.is) in
           let at : value_number code value ≡ number = ap (value_number code) (sym same) ∙ found.is in
           record {
             there = subst (IsSharedThere code blocks) same found.there;
             doubled = subst (λ (n : ℕ). IsDoubled code blocks n s) (sym at) doubled;
-            least = λ v less again. omega (arith, least v ((left v).1 again.0) ((right v).1 again.1), less, at);
+            least = λ v less again. let both = (common v).1 again in omega (arith, least v both.0 both.1, less, at);
             before = λ j v less again. before j v less again;
           }
 
   -- the operands of a product stand at its places
-  pub product-stands : (s : ℕ) (left right : Operand) → slice_get blocks s ≡ Some (Mul left right)
+  product-stands : (s : ℕ) (left right : Operand) → slice_get blocks s ≡ Some (Mul left right)
       → StandsAt s 0 (value_number code left) × StandsAt s 1 (value_number code right)
   product-stands s left right there =
       let at : slice_get (links code blocks) s ≡ Some (link_of code (Mul left right)) = links-at code blocks s (Mul left right) there in (
         subst (λ (o : Option Link). IsSomeAnd o (λ link. (link.kind ≡ Strong) × (slice_get link.shared 0 ≡ Some (value_number code left)))) (sym at) (refl, refl),
         subst (λ (o : Option Link). IsSomeAnd o (λ link. (link.kind ≡ Strong) × (slice_get link.shared 1 ≡ Some (value_number code right)))) (sym at) (refl, refl),
+      )
+
+  -- two values at the two places of a strong block, in either order
+  pub record HavePlaces (s first second : ℕ) : Type 0 where
+    pub place : ℕ
+    pub other : ℕ
+    pub stands : StandsAt s place first × StandsAt s other second
+    pub both : (v : ℕ) → (Reaches inputs (links code blocks) v s place × Reaches inputs (links code blocks) v s other) ↔ IsDoubled code blocks v s
+
+  -- the operands of a product, in either order, stand at its places
+  pub product-places : (s : ℕ) (left right first second : Operand) → s < length blocks → get_or blocks s (Const 0) ≡ Mul left right
+      → ((first ≡ left) × (second ≡ right)) ⊎ ((first ≡ right) × (second ≡ left)) → HavePlaces s (value_number code first) (value_number code second)
+  product-places s left right first second within is order =
+      let stands = product-stands s left right (slice_get-get_or blocks s (Const 0) within ∙ ap (λ (op : Op). Some op) is) in
+      let f : Operand → ℕ = value_number code in
+      elim (order) [
+        | inl same ↦ record {
+          place = 0;
+          other = 1;
+          stands = (subst (λ (x : Operand). StandsAt s 0 (f x)) (sym same.0) stands.0, subst (λ (x : Operand). StandsAt s 1 (f x)) (sym same.1) stands.1);
+          both = λ v. (λ reach. reach, λ doubled. doubled);
+        }
+        | inr swapped ↦ record {
+          place = 1;
+          other = 0;
+          stands = (subst (λ (x : Operand). StandsAt s 1 (f x)) (sym swapped.0) stands.1, subst (λ (x : Operand). StandsAt s 0 (f x)) (sym swapped.1) stands.0);
+          both = λ v. (λ reach. (reach.1, reach.0), λ doubled. (doubled.1, doubled.0));
+        }
+      ]
+
+  -- what a search from an operand of block s has found, of the values from the number `least` on
+  abbrev pub HasFound : ℕ → ℕ → ℕ → List ℕ → Type 0
+  HasFound s w least found =
+      (place : ℕ) → StandsAt s place w → (v : ℕ) → Contains found v ↔ ((least ≤ v) × Reaches inputs (links code blocks) v s place)
+
+  -- a value that both searches found is doubled, where the second left out none but those before all of the first
+  pub common-doubled : (s first second least : ℕ) (firsts seconds : List ℕ) → HavePlaces s first second
+      → HasFound s first 0 firsts → HasFound s second least seconds → All (λ v. least ≤ v) firsts
+      → (v : ℕ) → (Contains firsts v × Contains seconds v) ↔ IsDoubled code blocks v s
+  common-doubled s first second least firsts seconds places at_first at_second above v =
+      let one = at_first places.place places.stands.0 v in
+      let other = at_second places.other places.stands.1 v in (
+        λ found. (places.both v).0 ((one.0 found.0).1, (other.0 found.1).1),
+        λ doubled.
+            let reach = (places.both v).1 doubled in
+            let among : Contains firsts v = one.1 (omega arith, reach.0) in
+            (among, other.1 (All-contains (λ x. least ≤ x) firsts v above among, reach.1)),
       )
 
   -- only a product has two places

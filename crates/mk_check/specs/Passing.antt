@@ -33,12 +33,12 @@ pub record IsFinding (stamp : ℕ) (search : Search) : Type 0 where
   pub each : (v : ℕ) → Contains search.found.items v ↔ (slice_get search.stamps.items v ≡ Some stamp)
   pub latest : All (λ s. s ≤ stamp) search.stamps.items
 
--- the search found these values too, behind those that it had found
-pub record IsAdded (stamp : ℕ) (values : List ℕ) (old new : Search) : Type 0 where
+-- the search found these values too, those with numbers from `least` on, behind those that it had found
+pub record IsAdded (stamp least : ℕ) (values : List ℕ) (old new : Search) : Type 0 where
   pub count : length new.stamps.items ≡ length old.stamps.items
   pub finding : IsFinding stamp new
   pub more : (found : List ℕ) × (new.found.items ≡ old.found.items ++ found)
-  pub each : (v : ℕ) → Contains new.found.items v ↔ (Contains old.found.items v ⊎ Contains values v)
+  pub each : (v : ℕ) → Contains new.found.items v ↔ (Contains old.found.items v ⊎ (Contains values v × (least ≤ v)))
 
 -- it names the first product of which a value reaches both places, and the first such value
 abbrev pub IsDoubling : Listing → List Op → CheckRefusal → Type 0

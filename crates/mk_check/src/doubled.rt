@@ -1,5 +1,6 @@
 //! Whether a value reaches both places of a product, by a search back from each operand that goes only
-//! where a value reaches it.
+//! where a value reaches it: first from the later operand, and then from the other one no further back than
+//! that search went.
 
 ghost use Rattle.std.specs.Prelude.{◌≡◌, ◌⊎◌, ◌+◌, ◌<◌, ◌≤◌, ◌^◌, ◌↔◌, ◌++◌, ◌∷◌, [], List, ℕ, All, Contains, IsTrue, IsSomeAnd, IfOk, IfErr, IfSome, OnOk, length, map, slice_get, Some, option_to_list};
 ghost use Rattle.mk_ssa.specs.declared.Op.{Op};
@@ -72,38 +73,47 @@ impl Search {
         self.stamps[number] == stamp
     }
 
-    /// Adds the value with this number to those found, if it isn't among them.
-    fn add_number(&mut self, stamp: u32, number: usize) -> Result<(), Memory>
+    /// Adds the value with this number to those found, if the number is at least `least` and it isn't among
+    /// them.
+    fn add_number(&mut self, stamp: u32, least: usize, number: usize) -> Result<(), Memory>
         requires there { number < length self.old.stamps.items }
         requires finding { IsFinding stamp self.old }
-        ensures { OnOk result (IsAdded stamp (number ∷ []) self.old self.new) }
+        ensures { OnOk result (IsAdded stamp least (number ∷ []) self.old self.new) }
     {
-        if !self.has(stamp, number) {
+        if number >= least && !self.has(stamp, number) {
             self.stamps[number] = stamp;
             self.found.push(number)?;
         }
         Ok(())
     }
 
-    /// Adds a value to those found, if there is one and it isn't among them.
-    fn add(&mut self, code: &Code, stamp: u32, value: Option<Operand>) -> Result<(), Memory>
+    /// Adds a value to those found, if there is one, its number is at least `least` and it isn't among them.
+    fn add(
+        &mut self,
+        code: &Code,
+        stamp: u32,
+        least: usize,
+        value: Option<Operand>,
+    ) -> Result<(), Memory>
         requires there { IfSome value (λ v. number_by_operand code.now v < length self.old.stamps.items) }
         requires finding { IsFinding stamp self.old }
-        ensures { OnOk result (IsAdded stamp (map (number_by_operand code.now) (option_to_list value)) self.old self.new) }
+        ensures { OnOk result (IsAdded stamp least (map (number_by_operand code.now) (option_to_list value)) self.old self.new) }
     {
         if let Some(value) = value {
-            self.add_number(stamp, value_number(code, value))?;
+            self.add_number(stamp, least, value_number(code, value))?;
         }
         Ok(())
     }
 
-    /// Finds the values that reach a place of block `block` at which this operand stands.
+    /// Finds the values with numbers from `least` on that reach a place of block `block` at which this operand
+    /// stands. The operands of a block have lesser numbers than its own, so it goes back from those alone.
     fn run(
         &mut self,
         code: &Code,
         blocks: &[Op],
         block: usize,
         value: Operand,
+        least: usize,
     ) -> Result<(), Memory>
         requires wired { Wired code.now blocks.now }
         requires small { length blocks.now < 2 ^ 32 }
@@ -113,19 +123,27 @@ impl Search {
         requires stamps { All (λ s. s ≤ block) self.old.stamps.items }
         ensures count { OnOk result (length self.new.stamps.items ≡ length self.old.stamps.items) }
         ensures finding { OnOk result (IsFinding (block + 1) self.new) }
-        ensures found { OnOk result ((place : ℕ) → IsSomeAnd (slice_get (links code.now blocks.now) block) (λ link. (link.kind ≡ Strong) × (slice_get link.shared place ≡ Some (number_by_operand code.now value))) → (v : ℕ) → Contains self.new.found.items v ↔ Reaches (code.now.secrets + code.now.publics) (links code.now blocks.now) v block place) }
+        ensures found { OnOk result ((place : ℕ) → IsSomeAnd (slice_get (links code.now blocks.now) block) (λ link. (link.kind ≡ Strong) × (slice_get link.shared place ≡ Some (number_by_operand code.now value))) → (v : ℕ) → Contains self.new.found.items v ↔ ((least ≤ v) × Reaches (code.now.secrets + code.now.publics) (links code.now blocks.now) v block place)) }
     {
         let stamp = block as u32 + 1;
         self.found.clear();
-        self.add(code, stamp, Some(value))?;
+        self.add(code, stamp, least, Some(value))?;
         let mut next = 0;
         while next < self.found.len() {
             let (first, second) = leading_to(code, blocks, self.found[next]);
-            self.add(code, stamp, first)?;
-            self.add(code, stamp, second)?;
+            self.add(code, stamp, least, first)?;
+            self.add(code, stamp, least, second)?;
             next += 1;
         }
         Ok(())
+    }
+
+    /// The least number found, or 0 if none was.
+    fn first_number(&self) -> usize
+        ensures below { All (λ v. result ≤ v) self.now.found.items }
+        ensures found { (self.now.found.items ≡ []) ⊎ Contains self.now.found.items result }
+    {
+        self.found.iter().copied().min().unwrap_or(0)
     }
 }
 
@@ -173,8 +191,21 @@ fn value_at(code: &Code, number: usize) -> Operand
     }
 }
 
+/// Both operands, first the one with the greater number.
+fn later_first(code: &Code, left: Operand, right: Operand) -> (Operand, Operand)
+    ensures same { ((result.0 ≡ left) × (result.1 ≡ right)) ⊎ ((result.0 ≡ right) × (result.1 ≡ left)) }
+    ensures later { number_by_operand code.now result.1 ≤ number_by_operand code.now result.0 }
+{
+    if value_number(code, left) < value_number(code, right) {
+        (right, left)
+    } else {
+        (left, right)
+    }
+}
+
 /// Answers `Doubled` for the first product of which a value reaches both places, with the first such
-/// value. A product costs what reaches it, however many blocks there are.
+/// value. A product costs what reaches its later operand, and of what reaches the other one the values that
+/// aren't before all of that, however many blocks there are.
 pub(crate) fn undoubled(alloc: Global, code: &Code, blocks: &[Op]) -> Result<(), CheckRefusal>
     requires wired { Wired code.now blocks.now }
     requires small { length blocks.now < 2 ^ 32 }
@@ -182,13 +213,15 @@ pub(crate) fn undoubled(alloc: Global, code: &Code, blocks: &[Op]) -> Result<(),
     ensures doubled { IfErr result (λ e. (e ≡ CheckRefusal.Memory) ⊎ IsDoubling code.now blocks.now e) }
 {
     let count = code.secrets() as usize + code.publics() as usize + blocks.len();
-    let mut lefts = Search::new(alloc, count)?;
-    let mut rights = Search::new(alloc, count)?;
+    let mut from_later = Search::new(alloc, count)?;
+    let mut from_earlier = Search::new(alloc, count)?;
     for (block, op) in blocks.iter().enumerate() {
         if let Op::Mul { left, right } = *op {
-            lefts.run(code, blocks, block, left)?;
-            rights.run(code, blocks, block, right)?;
-            if let Some(number) = first_common(&lefts, &rights, block as u32 + 1) {
+            let (later, earlier) = later_first(code, left, right);
+            from_later.run(code, blocks, block, later, 0)?;
+            let least = from_later.first_number();
+            from_earlier.run(code, blocks, block, earlier, least)?;
+            if let Some(number) = first_common(&from_later, &from_earlier, block as u32 + 1) {
                 return Err(CheckRefusal::Doubled {
                     value: value_at(code, number),
                     block: block as u32,

@@ -6,9 +6,9 @@ use Rattle.mk_check.proofs.doubled.undoubled.Given as goal
 
 abbrev pub invariant-loop-block : goal.invariant-loop-block
 invariant-loop-block l = record {
-  lefts : length l.lefts.stamps.items ≡ l.code.secrets + l.code.publics + length l.blocks;
-  rights : length l.rights.stamps.items ≡ l.code.secrets + l.code.publics + length l.blocks;
-  left_stamps : All (λ s. s ≤ l.block) l.lefts.stamps.items;
-  right_stamps : All (λ s. s ≤ l.block) l.rights.stamps.items;
+  later : length l.from_later.stamps.items ≡ l.code.secrets + l.code.publics + length l.blocks;
+  earlier : length l.from_earlier.stamps.items ≡ l.code.secrets + l.code.publics + length l.blocks;
+  later_stamps : All (λ s. s ≤ l.block) l.from_later.stamps.items;
+  earlier_stamps : All (λ s. s ≤ l.block) l.from_earlier.stamps.items;
   none : (s v : ℕ) → s < l.block → ¬ IsDoubled l.code l.blocks v s;
 }

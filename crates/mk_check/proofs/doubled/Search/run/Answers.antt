@@ -16,7 +16,7 @@ pub loop-next-init : goal.loop-next-init
 loop-next-init c = record {
   count = (c.in_ok-add.ensures).count;
   searching =
-      searching-start c.args.code.now c.args.blocks.now (value_number c.args.code.now c.args.value) (c.args.block + 1)
+      searching-start c.args.code.now c.args.blocks.now (value_number c.args.code.now c.args.value) (c.args.block + 1) c.args.least
       (record { stamps = c.args.self.now.stamps; found = c.clear.new.self }) c.add.new.self c.clear.ensures.items c.in_ok-add.ensures;
 }
 
@@ -67,12 +67,12 @@ loop-next-preserved c =
     record {
       count = (c.in_ok-add-3.ensures).count ∙ (c.in_ok-add-2.ensures).count ∙ c.loop-next.invariant.count;
       searching =
-          searching-next c.args.code.now c.args.blocks.now (f c.args.value) c.loop-next.next (c.args.block + 1) c.loop-next.self c.loop-next.invariant.searching
+          searching-next c.args.code.now c.args.blocks.now (f c.args.value) c.loop-next.next (c.args.block + 1) c.args.least c.loop-next.self c.loop-next.invariant.searching
           c.index.result.now (first ++ second) c.add-in-loop-next-2.new.self
           (was-read c.loop-next.self.found.items c.loop-next.next c.index.result.now inside c.index.ensures)
           (subst (λ (xs : List ℕ). (v : ℕ) → Contains xs v ↔ Leads c.args.code.now c.args.blocks.now v c.index.result.now)
           (map-append f (option_to_list c.leading_to-first.result.0) (option_to_list c.leading_to-first.result.1)) c.leading_to-first.ensures)
-          (added-both (c.args.block + 1) first second c.loop-next.self c.add-in-loop-next.new.self c.add-in-loop-next-2.new.self c.in_ok-add-2.ensures c.in_ok-add-3.ensures);
+          (added-both (c.args.block + 1) c.args.least first second c.loop-next.self c.add-in-loop-next.new.self c.add-in-loop-next-2.new.self c.in_ok-add-2.ensures c.in_ok-add-3.ensures);
     }
 
 pub returns-clause-count : goal.returns-clause-count
@@ -83,5 +83,5 @@ returns-clause-finding c = c.loop-next.invariant.searching.finding
 
 pub returns-clause-found : goal.returns-clause-found
 returns-clause-found c = λ place stands v.
-    searched c.args.code.now c.args.blocks.now (value_number c.args.code.now c.args.value) c.loop-next.next (c.args.block + 1) c.loop-next.self
-    c.loop-next.invariant.searching (omega (arith, c.loop-next-test.false, c.len.ensures, c.loop-next.self.found.ok)) c.args.block place stands v
+    searched c.args.code.now c.args.blocks.now (value_number c.args.code.now c.args.value) c.loop-next.next (c.args.block + 1) c.args.least c.loop-next.self
+    c.loop-next.invariant.searching c.requires.wired (omega (arith, c.loop-next-test.false, c.len.ensures, c.loop-next.self.found.ok)) c.args.block place stands v

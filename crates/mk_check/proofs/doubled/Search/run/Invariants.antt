@@ -7,7 +7,7 @@ use Rattle.mk_check.proofs.doubled.Search.run.Given as goal
 abbrev pub invariant-loop-next : goal.invariant-loop-next
 invariant-loop-next l = record {
   count : length l.self.stamps.items ≡ length l.fn.self.stamps.items;
-  searching : IsSearching l.code l.blocks (value_number l.code l.fn.value) l.next (l.block + 1) l.self;
+  searching : IsSearching l.code l.blocks (value_number l.code l.fn.value) l.next (l.block + 1) l.fn.least l.self;
 }
 
 abbrev pub decreases-loop-next : goal.decreases-loop-next
