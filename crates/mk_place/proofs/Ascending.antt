@@ -1,11 +1,12 @@
 -- Ascending lists of places, and when two of them clash.
-use Rattle.std.proofs.Common.{◌≡◌, ℕ, zero, suc, ◌+◌, ◌<◌, ◌≤◌, Bool, true, false, List, [], ◌∷◌, length, drop, get_or, sym, ◌∙◌, ap, subst, inl, inr, arith}
+use Rattle.std.proofs.Common.{◌≡◌, ◌↔◌, ℕ, zero, suc, ◌+◌, ◌-◌, ◌<◌, ◌≤◌, Bool, true, false, List, [], ◌∷◌, ◌++◌, length, drop, get_or, sym, ◌∙◌, ap, subst, inl, inr, arith}
 use Rattle.std.specs.List.{Contains}
 use Rattle.std.proofs.lemmas.Bool.{cases_Bool, cases_eq, false_from_ne_true}
 use Rattle.std.proofs.lemmas.List.{drop_more, drop_all}
+use Rattle.std.proofs.lemmas.List.Elements.{Contains-get_or, Contains-append_cases}
 use Rattle.mk_place.specs.declared.need.Place.{Place}
 use Rattle.mk_place.specs.Needs.{clash}
-use Rattle.mk_place.specs.Marking.{AreAscending}
+use Rattle.mk_place.specs.Marking.{AreAscending, AreBefore}
 use Rattle.mk_place.proofs.Joining.{none-in, in-cases, in-front, in-behind, same-place, Clashing, clash-at, clash-from}
 
 -- no places ascend
@@ -32,6 +33,40 @@ before-all p q qs below ascending x held = elim (in-cases q qs x held) [
   | inl own ↦ omega (arith, below, ap (λ (y : Place). y.value) own)
   | inr rest ↦ omega (arith, below, ascending.0 x rest)
 ]
+
+-- no place is behind the last one
+up-to-last : (ps : List Place) (k : ℕ) (d : Place) → AreAscending ps → length ps ≡ suc k → (x : Place) → Contains ps x → x.value ≤ (get_or ps k d).value
+unfolding AreAscending
+up-to-last [] k d ascending long x held = absurd (none-in x held)
+up-to-last (p ∷ ps) zero d ascending long x held = elim (in-cases p ps x held) [
+  | inl own ↦ omega (arith, ap (λ (y : Place). y.value) own)
+  | inr rest ↦ absurd (omega (arith, long, rest.1))
+]
+up-to-last (p ∷ ps) (suc k) d ascending long x held = elim (in-cases p ps x held) [
+  | inl own ↦ omega (arith, ap (λ (y : Place). y.value) own, ascending.0 (get_or ps k d) (Contains-get_or ps k d (omega (arith, long))))
+  | inr rest ↦ up-to-last ps k d ascending.1 (omega (arith, long)) x rest
+]
+
+-- each place of one list is before those of another just if the last one is before the first one there
+pub before-ends : (ps qs : List Place) (d e : Place) → AreAscending ps → AreAscending qs → 0 < length ps → 0 < length qs
+    → ((get_or ps (length ps - 1) d).value < (get_or qs 0 e).value) ↔ AreBefore ps qs
+before-ends ps [] d e left right some more = absurd (omega (arith, more))
+before-ends ps (q ∷ qs) d e left right some more = (
+  λ below x y held there. before-all x q qs (omega (arith, below, up-to-last ps (length ps - 1) d left (omega (arith, some)) x held)) right y there,
+  λ before. before (get_or ps (length ps - 1) d) q (Contains-get_or ps (length ps - 1) d (omega (arith, some))) (in-front q qs),
+)
+
+-- a list behind one whose places are before its own ascends with it
+pub appended-ascending : (ps qs : List Place) → AreAscending ps → AreAscending qs → AreBefore ps qs → AreAscending (ps ++ qs)
+unfolding AreAscending
+appended-ascending [] qs left right before = right
+appended-ascending (p ∷ ps) qs left right before = (
+  λ x held. elim (Contains-append_cases ps qs x held) [
+    | inl one ↦ left.0 x one
+    | inr other ↦ before p x (in-front p ps) other
+  ],
+  appended-ascending ps qs left.1 right (λ x y held there. before x y (in-behind p ps x held) there),
+)
 
 -- the first place is before those behind it
 pub before-rest : (p : Place) (ps : List Place) → AreAscending (p ∷ ps) → (x : Place) → Contains ps x → p.value < x.value

@@ -3,11 +3,12 @@ use Rattle.std.proofs.Common.{◌≡◌, ◌⊎◌, ℕ, ◌+◌, ◌<◌, ◌�
 use Rattle.std.specs.List.{Contains}
 use Rattle.std.proofs.lemmas.Bool.{cases_order, lt-ltb, le-ltb}
 use Rattle.std.proofs.lemmas.List.{drop_more, drop_all}
+use Rattle.std.proofs.lemmas.List.Elements.{Contains-append_left, Contains-append_right, Contains-append_cases}
 use Rattle.mk_place.specs.declared.need.Place.{Place}
 use Rattle.mk_place.specs.Needs.{clash, joined}
-use Rattle.mk_place.specs.Marking.{AreAscending, IsNeed}
+use Rattle.mk_place.specs.Marking.{AreAscending, AreBefore, IsNeed}
 use Rattle.mk_place.proofs.Joining.{none-in, in-cases, in-front, in-behind, joined-left, joined-right, joined-from, Clashing}
-use Rattle.mk_place.proofs.Ascending.{before-all, clashing-in, none-clashing, first-same}
+use Rattle.mk_place.proofs.Ascending.{before-all, appended-ascending, clashing-in, none-clashing, first-same}
 
 -- a list with this first place and these behind it, merged with another, where the function merges those
 -- behind
@@ -149,19 +150,47 @@ merged-ascending (p ∷ ps) (q ∷ qs) left right = elim (cases_order p.value q.
   ]
 ]
 
--- they are the need of both
-pub need-joined : (ps qs both : List Place) → AreAscending ps → AreAscending qs → clash ps qs ≡ false → both ≡ merged ps qs → IsNeed (joined ps qs) both
-need-joined ps qs both left right apart is =
-    record {
-      same = λ x. (
-        λ held. elim (merged-from ps qs x (subst (λ (xs : List Place). Contains xs x) is held)) [
-          | inl one ↦ joined-left ps qs x one
-          | inr other ↦ joined-right ps qs x other
-        ],
-        λ held. subst (λ (xs : List Place). Contains xs x) (sym is) (merged-to ps qs (none-clashing ps qs apart) x (joined-from ps qs x held)),
-      );
-      ascending = subst AreAscending (sym is) (merged-ascending ps qs left right);
-    }
+-- ascending places, those of both lists, are the need of both
+need-of : (ps qs both : List Place) → AreAscending both → ((x : Place) → Contains both x → Contains ps x ⊎ Contains qs x)
+    → ((x : Place) → Contains ps x ⊎ Contains qs x → Contains both x) → IsNeed (joined ps qs) both
+need-of ps qs both ascending from to = record {
+  same = λ x. (
+    λ held. elim (from x held) [
+      | inl one ↦ joined-left ps qs x one
+      | inr other ↦ joined-right ps qs x other
+    ],
+    λ held. to x (joined-from ps qs x held),
+  );
+  ascending = ascending;
+}
+
+-- merged lists are
+pub need-joined : (ps qs : List Place) → AreAscending ps → AreAscending qs → clash ps qs ≡ false → (both : List Place) → both ≡ merged ps qs → IsNeed (joined ps qs) both
+need-joined ps qs left right apart both is =
+    subst (IsNeed (joined ps qs)) (sym is)
+    (need-of ps qs (merged ps qs) (merged-ascending ps qs left right) (merged-from ps qs) (merged-to ps qs (none-clashing ps qs apart)))
+
+-- and the one list behind the other, if the places of the one are before those of the other
+pub need-appended : (ps qs : List Place) → AreAscending ps → AreAscending qs → AreBefore ps qs → (both : List Place) → both ≡ ps ++ qs → IsNeed (joined ps qs) both
+need-appended ps qs left right before both is =
+    subst (IsNeed (joined ps qs)) (sym is)
+    (need-of ps qs (ps ++ qs) (appended-ascending ps qs left right before) (Contains-append_cases ps qs) (λ x held. elim held [
+      | inl one ↦ Contains-append_left ps qs x one
+      | inr other ↦ Contains-append_right ps qs x other
+    ]))
+
+pub need-prepended : (ps qs : List Place) → AreAscending ps → AreAscending qs → AreBefore qs ps → (both : List Place) → both ≡ qs ++ ps → IsNeed (joined ps qs) both
+need-prepended ps qs left right before both is =
+    subst (IsNeed (joined ps qs)) (sym is)
+    (need-of ps qs (qs ++ ps) (appended-ascending qs ps right left before)
+    (λ x held. elim (Contains-append_cases qs ps x held) [
+      | inl other ↦ inr other
+      | inr one ↦ inl one
+    ])
+    (λ x held. elim held [
+      | inl one ↦ Contains-append_right qs ps x one
+      | inr other ↦ Contains-append_left qs ps x other
+    ]))
 
 module _ (both left right all : List Place) (i j : ℕ) (d e : Place)
     (so_far : both ++ merged (drop i left) (drop j right) ≡ all) where

@@ -33,6 +33,10 @@ unfoldable pub AreAscending : List Place → Type 0
 AreAscending [] = Unit {0}
 AreAscending (p ∷ ps) = ((q : Place) → Contains ps q → p.value < q.value) × AreAscending ps
 
+-- each place of the first list is of a product before those of the second one
+abbrev pub AreBefore : List Place → List Place → Type 0
+AreBefore ps qs = (p q : Place) → Contains ps p → Contains qs q → p.value < q.value
+
 -- the list has the places of the need, in order
 pub record IsNeed (need places : List Place) : Type 0 where
   pub same : (p : Place) → Contains places p ↔ Contains need p

@@ -1,8 +1,8 @@
 //! The need of a value: the places of products that it reaches through no refresh.
 
-ghost use Rattle.std.specs.Prelude.{◌≡◌, ◌++◌, false, IfOk, OnOk};
+ghost use Rattle.std.specs.Prelude.{◌≡◌, ◌↔◌, ◌++◌, false, IfOk, IsTrue};
 ghost use Rattle.mk_place.specs.Needs.{clash as clashing, joined};
-ghost use Rattle.mk_place.specs.Marking.{AreAscending, IsNeed};
+ghost use Rattle.mk_place.specs.Marking.{AreAscending, AreBefore, IsNeed};
 
 use mk_base::{Items, Memory};
 use std::alloc::Global;
@@ -40,24 +40,43 @@ pub(crate) fn clash(need: &[Place], brought: &[Place]) -> bool
     false
 }
 
-/// Appends places.
-fn push_all(need: &mut Need, places: &[Place]) -> Result<(), Memory>
-    ensures { OnOk result (need.new ≡ need.old ++ places.now) }
+/// Whether each place of the left list comes before each of the right one.
+fn are_before(left: &[Place], right: &[Place]) -> bool
+    requires left { AreAscending left.now }
+    requires right { AreAscending right.now }
+    ensures { IsTrue result ↔ AreBefore left.now right.now }
 {
-    for place in places {
-        need.push(*place)?;
-    }
-    Ok(())
+    left.is_empty() || right.is_empty() || left[left.len() - 1].value < right[0].value
 }
 
-/// The places of both lists, between which there is no clash.
-pub(crate) fn join(alloc: Global, need: &[Place], brought: &[Place]) -> Result<Need, Memory>
+/// These places as a need. No need has memory for 2^32 places.
+fn as_need(places: Vec<Place>) -> Result<Need, Memory>
+    ensures { IfOk result (λ need. need ≡ places.items) }
+{
+    if places.len() > u32::MAX as usize {
+        return Err(Memory);
+    }
+    Ok(Items::from_vec(places))
+}
+
+/// The places of the left list and those of the right one behind them.
+fn appended(alloc: Global, left: &[Place], right: &[Place]) -> Result<Need, Memory>
+    ensures { IfOk result (λ both. both ≡ left.now ++ right.now) }
+{
+    let mut both = Vec::with_capacity(alloc, left.len() + right.len())?;
+    both.extend_from_slice(left)?;
+    both.extend_from_slice(right)?;
+    as_need(both)
+}
+
+/// The places of both lists, between which there is no clash, place by place.
+fn merge(alloc: Global, need: &[Place], brought: &[Place]) -> Result<Need, Memory>
     requires need { AreAscending need.now }
     requires brought { AreAscending brought.now }
     requires apart { clashing need.now brought.now ≡ false }
     ensures { IfOk result (λ both. IsNeed (joined need.now brought.now) both) }
 {
-    let mut both = Items::new(alloc);
+    let mut both = Vec::with_capacity(alloc, need.len() + brought.len())?;
     let mut i = 0;
     let mut j = 0;
     while i < need.len() && j < brought.len() {
@@ -73,7 +92,24 @@ pub(crate) fn join(alloc: Global, need: &[Place], brought: &[Place]) -> Result<N
             j += 1;
         }
     }
-    push_all(&mut both, &need[i..])?;
-    push_all(&mut both, &brought[j..])?;
-    Ok(both)
+    both.extend_from_slice(&need[i..])?;
+    both.extend_from_slice(&brought[j..])?;
+    as_need(both)
+}
+
+/// The places of both lists, between which there is no clash. Where the one list comes before the
+/// other, both are copied as they are.
+pub(crate) fn join(alloc: Global, need: &[Place], brought: &[Place]) -> Result<Need, Memory>
+    requires need { AreAscending need.now }
+    requires brought { AreAscending brought.now }
+    requires apart { clashing need.now brought.now ≡ false }
+    ensures { IfOk result (λ both. IsNeed (joined need.now brought.now) both) }
+{
+    if are_before(need, brought) {
+        appended(alloc, need, brought)
+    } else if are_before(brought, need) {
+        appended(alloc, brought, need)
+    } else {
+        merge(alloc, need, brought)
+    }
 }
