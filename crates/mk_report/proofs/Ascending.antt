@@ -34,6 +34,14 @@ before-asym p q = grind arith
 pub before-same : (p q : Place) → is_before p q ≡ false → is_before q p ≡ false → p ≡ q
 before-same p q = grind arith
 
+-- places before one that comes before all of a list
+pub before-all : (p q : Place) (qs : List Place) → is_before p q ≡ true → AreAscending (q ∷ qs) → (x : Place) → Contains (q ∷ qs) x → is_before p x ≡ true
+unfolding AreAscending
+before-all p q qs on ascending x held = elim (in-cases q qs x held) [
+  | inl own ↦ ap (is_before p) (sym own) ∙ on
+  | inr rest ↦ before-trans p q x on (ascending.0 x rest)
+]
+
 -- ascending lists with the same places are equal
 pub ascending-same : (ps qs : List Place) → AreAscending ps → AreAscending qs → ((x : Place) → Contains ps x → Contains qs x)
     → ((x : Place) → Contains qs x → Contains ps x) → ps ≡ qs

@@ -6,7 +6,7 @@ use Rattle.std.proofs.lemmas.List.{drop_more, drop_all}
 use Rattle.mk_report.specs.declared.need.Place.{Place}
 use Rattle.mk_report.specs.Reached.{is_before, AreAscending}
 use Rattle.mk_report.specs.Passing.{AreBoth}
-use Rattle.mk_report.proofs.Ascending.{none-in, in-cases, in-front, in-behind, before-trans, before-same}
+use Rattle.mk_report.proofs.Ascending.{none-in, in-cases, in-front, in-behind, before-all, before-same}
 
 -- a list with this first place and these behind it, merged with another, where the function merges those
 -- behind
@@ -110,14 +110,6 @@ merged-to (p ∷ ps) (q ∷ qs) x held = elim (cases_Bool (is_before p q)) [
       ]
     ])
   ]
-]
-
--- places before one that comes before all of a list
-before-all : (p q : Place) (qs : List Place) → is_before p q ≡ true → AreAscending (q ∷ qs) → (x : Place) → Contains (q ∷ qs) x → is_before p x ≡ true
-unfolding AreAscending
-before-all p q qs on ascending x held = elim (in-cases q qs x held) [
-  | inl own ↦ ap (is_before p) (sym own) ∙ on
-  | inr rest ↦ before-trans p q x on (ascending.0 x rest)
 ]
 
 -- merged lists ascend

@@ -60,6 +60,11 @@ rows-more xs i d within =
     take_more (enumerate_from 0 xs) i (0, d) (omega (arith, within, long))
     ∙ ap (λ (row : ℕ × _). take i (enumerate_from 0 xs) ++ row ∷ []) (get_or-enumerate_from 0 xs i (0, d) within ∙ ap (λ (k : ℕ). (k, get_or xs i d)) e)
 
+-- three texts that are appended one after the other
+pub three-texts : (start one two three xs ys zs : List ℕ) → one ≡ start ++ xs → two ≡ one ++ ys → three ≡ two ++ zs → three ≡ start ++ ((xs ++ ys) ++ zs)
+three-texts start one two three xs ys zs first second third =
+    third ∙ ap (λ (t : List ℕ). t ++ zs) (second ∙ ap (λ (t : List ℕ). t ++ ys) first ∙ append_assoc start xs ys) ∙ append_assoc start (xs ++ ys) zs
+
 -- functions that agree make the same lines
 flat_map-same : {X : Type 0} (f g : X → List ℕ) (xs : List X) → ((x : X) → f x ≡ g x) → flat_map f xs ≡ flat_map g xs
 flat_map-same f g [] same = refl

@@ -32,9 +32,9 @@ pub fn report(alloc: Global, code: &Code, cert: &Cert) -> Result<Bytes, Memory>
     ensures report { IfOk result (λ bytes. IsReport code.now cert.now bytes) }
 {
     let blocks = cert.blocks().as_slice();
-    let needs = reached(alloc, code, blocks)?;
+    let told = reached(alloc, code, blocks)?;
     let mut text = String::new(alloc);
-    push_report(&mut text, code, blocks, needs.as_slice())?;
+    push_report(&mut text, code, blocks, told.as_slice())?;
     let bytes = text.into_bytes();
     if bytes.len() > u32::MAX as usize {
         return Err(Memory);

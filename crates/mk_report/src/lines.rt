@@ -1,18 +1,16 @@
 //! The lines of a report.
 
-ghost use Rattle.std.specs.Prelude.{◌≡◌, ◌+◌, ◌<◌, ◌≤◌, ◌^◌, ◌++◌, [], length, slice_index_or, OnOk, string_bytes, codes};
+ghost use Rattle.std.specs.Prelude.{◌≡◌, ◌+◌, ◌<◌, ◌≤◌, ◌^◌, ◌++◌, ℕ, List, length, OnOk, string_bytes, codes};
 ghost use Rattle.std.specs.List.{flat_map, range_with_len, enumerate_from, sum_by};
 ghost use Rattle.mk_base.specs.declared.TheConstants.{TOP_ORDER};
+ghost use Rattle.mk_report.specs.Passing.{IsTold, AreTold};
 ghost use Rattle.mk_report.specs.Report.{kind_word, instrs_of, randoms_of, place_word, places_word, need_words, secret_line, block_line, total_line, report_text};
 
-use crate::need::{Need, Place};
+use crate::need::{Place, Told};
 use mk_code::Code;
 use mk_rules::cost;
 use mk_ssa::Op;
 use std::alloc::AllocError;
-
-/// How many places of a value are shown.
-const SHOWN: usize = 8;
 
 /// The word that stands for the operator in a bundle text.
 fn kind(op: Op) -> &'static str
@@ -67,20 +65,19 @@ fn push_places(text: &mut String, places: &[Place]) -> Result<(), AllocError>
 }
 
 /// Appends how many places there are, and the first of them.
-fn push_need(text: &mut String, need: &Need) -> Result<(), AllocError>
-    ensures { OnOk result (string_bytes text.new ≡ string_bytes text.old ++ need_words need.now) }
+fn push_need(text: &mut String, told: &Told) -> Result<(), AllocError>
+    ensures { OnOk result ((places : List Place) → IsTold places told.now → string_bytes text.new ≡ string_bytes text.old ++ need_words places) }
 {
-    let places = need.as_slice();
-    write!(text, "{} ", places.len())?;
-    push_places(text, &places[..places.len().min(SHOWN)])
+    write!(text, "{} ", told.count)?;
+    push_places(text, told.shown.as_slice())
 }
 
 /// Appends the line of a secret.
-fn push_secret(text: &mut String, secret: u32, need: &Need) -> Result<(), AllocError>
-    ensures { OnOk result (string_bytes text.new ≡ string_bytes text.old ++ secret_line secret need.now) }
+fn push_secret(text: &mut String, secret: u32, told: &Told) -> Result<(), AllocError>
+    ensures { OnOk result ((places : List Place) → IsTold places told.now → string_bytes text.new ≡ string_bytes text.old ++ secret_line secret places) }
 {
     write!(text, "s{secret} input 0 0 ")?;
-    push_need(text, need)?;
+    push_need(text, told)?;
     text.push_str("\n")
 }
 
@@ -90,46 +87,60 @@ fn push_block(
     order: u8,
     block: usize,
     op: Op,
-    need: &Need,
+    told: &Told,
 ) -> Result<(), AllocError>
     requires order { (1 ≤ order) × (order ≤ TOP_ORDER) }
-    ensures { OnOk result (string_bytes text.new ≡ string_bytes text.old ++ block_line order block op need.now) }
+    ensures { OnOk result ((places : List Place) → IsTold places told.now → string_bytes text.new ≡ string_bytes text.old ++ block_line order block op places) }
 {
     let price = cost(&op, order);
     let word = kind(op);
     let instrs = price.instrs;
     let randoms = price.randoms;
     write!(text, "b{block} {word} {instrs} {randoms} ")?;
-    push_need(text, need)?;
+    push_need(text, told)?;
     text.push_str("\n")
 }
 
+/// What is told of the value with this number, where the last value is told of first.
+fn told_of(told: &[Told], value: usize) -> &Told
+    requires { value < length told.now }
+    ensures { (places : ℕ → List Place) → AreTold places told.now → IsTold (places value) result.now }
+{
+    &told[told.len() - 1 - value]
+}
+
 /// Appends the lines of the secrets.
-fn push_secrets(text: &mut String, secrets: u32, needs: &[Need]) -> Result<(), AllocError>
-    requires { secrets ≤ length needs.now }
-    ensures { OnOk result (string_bytes text.new ≡ string_bytes text.old ++ flat_map (λ k. secret_line k (slice_index_or needs.now k [])) (range_with_len 0 secrets)) }
+fn push_secrets(text: &mut String, secrets: u32, told: &[Told]) -> Result<(), AllocError>
+    requires { secrets ≤ length told.now }
+    ensures { OnOk result ((places : ℕ → List Place) → AreTold places told.now → string_bytes text.new ≡ string_bytes text.old ++ flat_map (λ k. secret_line k (places k)) (range_with_len 0 secrets)) }
 {
     for secret in 0..secrets {
-        push_secret(text, secret, &needs[secret as usize])?;
+        push_secret(text, secret, told_of(told, secret as usize))?;
     }
     Ok(())
 }
 
-/// Appends the lines of the blocks, whose needs stand behind those of the inputs.
+/// Appends the lines of the blocks, whose values come behind the inputs.
 fn push_blocks(
     text: &mut String,
     code: &Code,
     blocks: &[Op],
-    needs: &[Need],
+    told: &[Told],
 ) -> Result<(), AllocError>
-    requires { length needs.now ≡ code.now.secrets + code.now.publics + length blocks.now }
-    ensures { OnOk result (string_bytes text.new ≡ string_bytes text.old ++ flat_map (λ row. block_line code.now.order row.0 row.1 (slice_index_or needs.now (code.now.secrets + code.now.publics + row.0) [])) (enumerate_from 0 blocks.now)) }
+    requires { length told.now ≡ code.now.secrets + code.now.publics + length blocks.now }
+    ensures { OnOk result ((places : ℕ → List Place) → AreTold places told.now → string_bytes text.new ≡ string_bytes text.old ++ flat_map (λ row. block_line code.now.order row.0 row.1 (places (code.now.secrets + code.now.publics + row.0))) (enumerate_from 0 blocks.now)) }
 {
     // `field` also ensures that the order is one that there is.
     let _fits = code.field();
     let inputs = code.secrets() as usize + code.publics() as usize;
     for (block, op) in blocks.iter().enumerate() {
-        push_block(text, code.order(), block, *op, &needs[inputs + block])?;
+        push_block(
+            text,
+            code.order(),
+            block,
+            *op,
+            told_of(told, inputs + block),
+        )?;
     }
     Ok(())
 }
@@ -171,20 +182,20 @@ fn push_total(text: &mut String, blocks: &[Op], order: u8) -> Result<(), AllocEr
     write!(text, "total {count} {instrs} {randoms}\n")
 }
 
-/// Appends the report of a code and its blocks, by the needs of values by their numbers.
+/// Appends the report of a code and its blocks, where the last value is told of first.
 pub(crate) fn push_report(
     text: &mut String,
     code: &Code,
     blocks: &[Op],
-    needs: &[Need],
+    told: &[Told],
 ) -> Result<(), AllocError>
     requires small { length blocks.now < 2 ^ 32 }
-    requires count { length needs.now ≡ code.now.secrets + code.now.publics + length blocks.now }
-    ensures { OnOk result (string_bytes text.new ≡ string_bytes text.old ++ report_text code.now blocks.now (λ v. slice_index_or needs.now v [])) }
+    requires count { length told.now ≡ code.now.secrets + code.now.publics + length blocks.now }
+    ensures { OnOk result ((places : ℕ → List Place) → AreTold places told.now → string_bytes text.new ≡ string_bytes text.old ++ report_text code.now blocks.now places) }
 {
     // `field` also ensures that the order is one that there is.
     let _fits = code.field();
-    push_secrets(text, code.secrets(), needs)?;
-    push_blocks(text, code, blocks, needs)?;
+    push_secrets(text, code.secrets(), told)?;
+    push_blocks(text, code, blocks, told)?;
     push_total(text, blocks, code.order())
 }

@@ -3,10 +3,10 @@
 ghost use Rattle.std.specs.Prelude.{◌≡◌, ◌+◌, ◌<◌, ◌^◌, ℕ, [], length, map, slice_get, slice_index_or, IfOk, OnOk, IfSome};
 ghost use Rattle.mk_rules.specs.Tiles.{value_number};
 ghost use Rattle.mk_rules.specs.Wired.{Wired};
-ghost use Rattle.mk_report.specs.Reached.{AreAscending, ArePlacesOf};
-ghost use Rattle.mk_report.specs.Passing.{passed_to as operands_of, brought as places_of, AllAscending, IsBrought};
+ghost use Rattle.mk_report.specs.Reached.{AreAscending};
+ghost use Rattle.mk_report.specs.Passing.{passed_to as operands_of, brought as places_of, AllAscending, IsBrought, IsPassedOn, TellsOf};
 
-use crate::need::{Need, Place, union};
+use crate::need::{Need, Place, Told, tell, union};
 use mk_base::{Items, Memory};
 use mk_code::Code;
 use mk_ssa::{Op, Operand};
@@ -96,41 +96,50 @@ fn no_needs(alloc: Global, count: usize) -> Result<Vec<Need>, Memory>
     Ok(needs)
 }
 
-/// The places of products that each value reaches, by its number.
-pub(crate) fn reached(alloc: Global, code: &Code, blocks: &[Op]) -> Result<Vec<Need>, Memory>
+/// Passes places on to the operands of the block with this number, whose value reaches these.
+fn pass_on(
+    alloc: Global,
+    code: &Code,
+    needs: &mut Vec<Need>,
+    block: u32,
+    op: Op,
+    own: &[Place],
+) -> Result<(), Memory>
+    requires first { IfSome (slice_get (map (value_number code.now) (operands_of op)) 0) (λ v. v < length needs.old.items) }
+    requires second { IfSome (slice_get (map (value_number code.now) (operands_of op)) 1) (λ v. v < length needs.old.items) }
+    requires needs { AllAscending needs.old.items }
+    requires own { AreAscending own.now }
+    ensures { OnOk result (IsPassedOn code.now block op own.now needs.old.items needs.new.items) }
+{
+    let (first, second) = passed_numbers(code, op);
+    let at_first = [Place { block, operand: 0 }];
+    let at_second = [Place { block, operand: 1 }];
+    bring(alloc, needs, second, brought(op, own, &at_second))?;
+    bring(alloc, needs, first, brought(op, own, &at_first))?;
+    Ok(())
+}
+
+/// What is told of the places of products that each value reaches, of the last value first. Places are kept
+/// of values whose uses are not all passed, and of inputs.
+pub(crate) fn reached(alloc: Global, code: &Code, blocks: &[Op]) -> Result<Vec<Told>, Memory>
     requires wired { Wired code.now blocks.now }
     requires small { length blocks.now < 2 ^ 32 }
-    ensures count { IfOk result (λ needs. length needs.items ≡ code.now.secrets + code.now.publics + length blocks.now) }
-    ensures places { IfOk result (λ needs. (v : ℕ) → ArePlacesOf code.now blocks.now v (slice_index_or needs.items v [])) }
+    ensures count { IfOk result (λ told. length told.items ≡ code.now.secrets + code.now.publics + length blocks.now) }
+    ensures places { IfOk result (λ told. TellsOf code.now blocks.now told.items) }
 {
     let inputs = code.secrets() as usize + code.publics() as usize;
     let mut needs = no_needs(alloc, inputs + blocks.len())?;
+    let mut told = Vec::new(alloc);
     let mut k = blocks.len();
     while k > 0 {
         k -= 1;
-        let op = blocks[k];
-        let (first, second) = passed_numbers(code, op);
-        let own = needs[inputs + k].copy(alloc)?;
-        let at_first = [Place {
-            block: k as u32,
-            operand: 0,
-        }];
-        let at_second = [Place {
-            block: k as u32,
-            operand: 1,
-        }];
-        bring(
-            alloc,
-            &mut needs,
-            second,
-            brought(op, own.as_slice(), &at_second),
-        )?;
-        bring(
-            alloc,
-            &mut needs,
-            first,
-            brought(op, own.as_slice(), &at_first),
-        )?;
+        let own = needs.pop().unwrap();
+        pass_on(alloc, code, &mut needs, k as u32, blocks[k], own.as_slice())?;
+        told.push(tell(alloc, own)?)?;
     }
-    Ok(needs)
+    for _ in 0..inputs {
+        let own = needs.pop().unwrap();
+        told.push(tell(alloc, own)?)?;
+    }
+    Ok(told)
 }

@@ -1,102 +1,142 @@
--- Each block passes its places on to its operands.
-use Rattle.std.proofs.Common.{◌≡◌, ◌+◌, ◌-◌, ◌<◌, [], ◌∷◌, ℕ, List, length, get_or, slice_get, Some, sym, ◌∙◌, ap, subst, arith}
-use Rattle.std.proofs.lemmas.List.{get_or_default}
+-- Each block passes its places on to its operands, and is told of; then the inputs are told of.
+use Rattle.std.proofs.Common.{◌≡◌, ◌+◌, ◌-◌, ◌<◌, ◌++◌, ℕ, List, Option, length, get_or, slice_get, Some, sym, ◌∙◌, ap, subst, arith}
+use Rattle.std.specs.Option.{option_to_list}
 use Rattle.std.proofs.lemmas.Option.{slice_get-get_or}
+use Rattle.mk_code.specs.Listing.{Listing}
 use Rattle.mk_ssa.specs.declared.Op.{Op}
 use Rattle.mk_ssa.specs.declared.Op.TheVariants.{Const}
 use Rattle.mk_report.specs.declared.need.Place.{Place}
 use Rattle.mk_report.specs.Reached.{AreAscending}
-use Rattle.mk_report.specs.Passing.{brought}
-use Rattle.mk_report.proofs.Passed.{AreReached, place_of, reached-none, reached-all, passed-there, brings-ascending, brought-long, brought-ascending, reached-next}
+use Rattle.mk_report.specs.Passing.{IsPassedOn}
+use Rattle.mk_report.proofs.Passed.{AreReached, AreFrom, reached-none, reached-popped, passed-there, reached-step, reached-all}
+use Rattle.mk_report.proofs.Telling.{AreToldFrom, told-none, told-more, tells-of}
 use Rattle.mk_report.proofs.reached.reached.Goals as goal
 
+-- the table without its last list, and that list
+left : (code : Listing) (blocks : List Op) (k now n m : ℕ) (table rest : List (List Place)) (o : Option (List Place)) (own : List Place) → now ≡ k
+    → m ≡ n + 1 → AreReached code blocks now m table → table ≡ rest ++ option_to_list o → o ≡ Some own
+    → AreReached code blocks k n rest × (AreAscending own × AreFrom code blocks k n own)
+left code blocks k now n m table rest o own at more are is there =
+    reached-popped code blocks k now n m table rest own at more are (is ∙ ap (λ (x : Option (List Place)). rest ++ option_to_list x) there)
+
 pub loop-k-init : goal.loop-k-init
-loop-k-init c = record {
-  within = omega arith;
-  reached =
-      reached-none c.args.code.now c.args.blocks.now (length c.args.blocks.now) c.in_ok-needs.needs.items (omega arith)
-      (omega (arith, c.in_ok-needs.ensures.count, c.secrets.ensures, c.publics.ensures)) c.in_ok-needs.ensures.none;
-}
+loop-k-init c =
+    let count : ℕ = c.args.code.now.secrets + c.args.code.now.publics + length c.args.blocks.now in
+    record {
+      within = omega arith;
+      reached =
+          reached-none c.args.code.now c.args.blocks.now (length c.args.blocks.now) count c.in_ok-needs.needs.items (omega arith)
+          (omega (arith, c.in_ok-needs.ensures.count, c.secrets.ensures, c.publics.ensures)) c.in_ok-needs.ensures.none;
+      told =
+          subst (AreToldFrom c.args.code.now c.args.blocks.now count) (sym c.new-told.ensures.items)
+          (told-none c.args.code.now c.args.blocks.now count (omega arith));
+    }
 
-pub bring-requires-clause-there : goal.bring-requires-clause-there
-bring-requires-clause-there c =
+pub pass_on-requires-clause-first : goal.pass_on-requires-clause-first
+pass_on-requires-clause-first c =
     let k : ℕ = c.loop-k.k - 1 in
-    let op : Op = get_or c.args.blocks.now k (Const 0) in
-    let there : slice_get c.args.blocks.now k ≡ Some op =
-    slice_get-get_or c.args.blocks.now k (Const 0) (omega (arith, c.loop-k.invariant.within, c.loop-k-test.true)) in
-    passed-there c.args.code.now c.args.blocks.now c.requires.wired k op there (length c.loop-k.needs.items) 1 c.passed_numbers-first.result.1
-    c.passed_numbers-first.ensures.second c.loop-k.invariant.reached.count
+    let code : Listing = c.args.code.now in
+    let inputs : ℕ = code.secrets + code.publics in
+    let rest = left code c.args.blocks.now (k + 1) c.loop-k.k (inputs + k) (inputs + c.loop-k.k) c.loop-k.needs.items c.pop.new.self.items c.pop.result
+    c.unwrap-own.result (omega (arith, c.loop-k-test.true)) (omega (arith, c.loop-k-test.true)) c.loop-k.invariant.reached c.pop.ensures.items c.unwrap-own.ensures in
+    passed-there code c.args.blocks.now c.requires.wired k (get_or c.args.blocks.now k (Const 0))
+    (slice_get-get_or c.args.blocks.now k (Const 0) (omega (arith, c.loop-k.invariant.within, c.loop-k-test.true)))
+    (length c.pop.new.self.items) 0 (sym rest.0.long)
 
-pub bring-requires-clause-places : goal.bring-requires-clause-places
-bring-requires-clause-places c =
+pub pass_on-requires-clause-second : goal.pass_on-requires-clause-second
+pass_on-requires-clause-second c =
     let k : ℕ = c.loop-k.k - 1 in
-    let op : Op = get_or c.args.blocks.now k (Const 0) in
-    let index : ℕ = c.secrets.result + c.publics.result + k in
-    let inside : index < length c.loop-k.needs.items =
-    omega (arith, c.secrets.ensures, c.publics.ensures, c.loop-k.invariant.reached.count, c.loop-k.invariant.within, c.loop-k-test.true) in
-    let own : c.as_slice.result.now ≡ get_or c.loop-k.needs.items index [] =
-    c.as_slice.ensures.items ∙ c.in_ok-own.ensures ∙ c.index.ensures ∙ get_or_default c.loop-k.needs.items index c.index.result.now [] inside in
-    brings-ascending op c.as_slice.result.now (place_of k 1) c.brought.result.now
-    (subst AreAscending (sym own) (c.loop-k.invariant.reached.ascending index)) c.brought.ensures
+    let code : Listing = c.args.code.now in
+    let inputs : ℕ = code.secrets + code.publics in
+    let rest = left code c.args.blocks.now (k + 1) c.loop-k.k (inputs + k) (inputs + c.loop-k.k) c.loop-k.needs.items c.pop.new.self.items c.pop.result
+    c.unwrap-own.result (omega (arith, c.loop-k-test.true)) (omega (arith, c.loop-k-test.true)) c.loop-k.invariant.reached c.pop.ensures.items c.unwrap-own.ensures in
+    passed-there code c.args.blocks.now c.requires.wired k (get_or c.args.blocks.now k (Const 0))
+    (slice_get-get_or c.args.blocks.now k (Const 0) (omega (arith, c.loop-k.invariant.within, c.loop-k-test.true)))
+    (length c.pop.new.self.items) 1 (sym rest.0.long)
 
-pub bring-requires-in-loop-k-clause-there : goal.bring-requires-in-loop-k-clause-there
-bring-requires-in-loop-k-clause-there c =
+pub pass_on-requires-clause-needs : goal.pass_on-requires-clause-needs
+pass_on-requires-clause-needs c =
     let k : ℕ = c.loop-k.k - 1 in
-    let op : Op = get_or c.args.blocks.now k (Const 0) in
-    let there : slice_get c.args.blocks.now k ≡ Some op =
-    slice_get-get_or c.args.blocks.now k (Const 0) (omega (arith, c.loop-k.invariant.within, c.loop-k-test.true)) in
-    passed-there c.args.code.now c.args.blocks.now c.requires.wired k op there (length c.bring.new.needs.items) 0 c.passed_numbers-first.result.0
-    c.passed_numbers-first.ensures.first
-    (brought-long c.loop-k.needs.items c.bring.new.needs.items c.passed_numbers-first.result.1 c.brought.result.now c.in_ok-bring.ensures
-    ∙ c.loop-k.invariant.reached.count)
+    let code : Listing = c.args.code.now in
+    let inputs : ℕ = code.secrets + code.publics in
+    let rest = left code c.args.blocks.now (k + 1) c.loop-k.k (inputs + k) (inputs + c.loop-k.k) c.loop-k.needs.items c.pop.new.self.items c.pop.result
+    c.unwrap-own.result (omega (arith, c.loop-k-test.true)) (omega (arith, c.loop-k-test.true)) c.loop-k.invariant.reached c.pop.ensures.items c.unwrap-own.ensures in
+    rest.0.ascending
 
-pub bring-requires-in-loop-k-clause-needs : goal.bring-requires-in-loop-k-clause-needs
-bring-requires-in-loop-k-clause-needs c =
-    brought-ascending c.loop-k.needs.items c.bring.new.needs.items c.passed_numbers-first.result.1 c.brought.result.now c.in_ok-bring.ensures
-    c.loop-k.invariant.reached.ascending
-
-pub bring-requires-in-loop-k-clause-places : goal.bring-requires-in-loop-k-clause-places
-bring-requires-in-loop-k-clause-places c =
+pub pass_on-requires-clause-own : goal.pass_on-requires-clause-own
+pass_on-requires-clause-own c =
     let k : ℕ = c.loop-k.k - 1 in
-    let op : Op = get_or c.args.blocks.now k (Const 0) in
-    let index : ℕ = c.secrets.result + c.publics.result + k in
-    let inside : index < length c.loop-k.needs.items =
-    omega (arith, c.secrets.ensures, c.publics.ensures, c.loop-k.invariant.reached.count, c.loop-k.invariant.within, c.loop-k-test.true) in
-    let own : c.as_slice-in-loop-k.result.now ≡ get_or c.loop-k.needs.items index [] =
-    c.as_slice-in-loop-k.ensures.items ∙ c.in_ok-own.ensures ∙ c.index.ensures ∙ get_or_default c.loop-k.needs.items index c.index.result.now [] inside in
-    brings-ascending op c.as_slice-in-loop-k.result.now (place_of k 0) c.brought-in-loop-k.result.now
-    (subst AreAscending (sym own) (c.loop-k.invariant.reached.ascending index)) c.brought-in-loop-k.ensures
+    let code : Listing = c.args.code.now in
+    let inputs : ℕ = code.secrets + code.publics in
+    let rest = left code c.args.blocks.now (k + 1) c.loop-k.k (inputs + k) (inputs + c.loop-k.k) c.loop-k.needs.items c.pop.new.self.items c.pop.result
+    c.unwrap-own.result (omega (arith, c.loop-k-test.true)) (omega (arith, c.loop-k-test.true)) c.loop-k.invariant.reached c.pop.ensures.items c.unwrap-own.ensures in
+    subst AreAscending (sym c.as_slice.ensures.items) rest.1.0
 
 pub loop-k-preserved : goal.loop-k-preserved
 loop-k-preserved c =
     let k : ℕ = c.loop-k.k - 1 in
-    let op : Op = get_or c.args.blocks.now k (Const 0) in
-    let there : slice_get c.args.blocks.now k ≡ Some op =
-    slice_get-get_or c.args.blocks.now k (Const 0) (omega (arith, c.loop-k.invariant.within, c.loop-k-test.true)) in
-    let index : ℕ = c.secrets.result + c.publics.result + k in
-    let inputs : ℕ = c.args.code.now.secrets + c.args.code.now.publics in
-    let inside : index < length c.loop-k.needs.items =
-    omega (arith, c.secrets.ensures, c.publics.ensures, c.loop-k.invariant.reached.count, c.loop-k.invariant.within, c.loop-k-test.true) in
-    let at : index ≡ inputs + k = omega (arith, c.secrets.ensures, c.publics.ensures) in
-    let own : c.in_ok-own.own ≡ get_or c.loop-k.needs.items (inputs + k) [] =
-    c.in_ok-own.ensures ∙ c.index.ensures ∙ get_or_default c.loop-k.needs.items index c.index.result.now [] inside
-    ∙ ap (λ (i : ℕ). get_or c.loop-k.needs.items i []) at in
-    let one : c.brought.result.now ≡ brought op c.in_ok-own.own (place_of k 1 ∷ []) =
-    c.brought.ensures ∙ ap (λ (xs : List Place). brought op xs (place_of k 1 ∷ [])) c.as_slice.ensures.items in
-    let other : c.brought-in-loop-k.result.now ≡ brought op c.in_ok-own.own (place_of k 0 ∷ []) =
-    c.brought-in-loop-k.ensures ∙ ap (λ (xs : List Place). brought op xs (place_of k 0 ∷ [])) c.as_slice-in-loop-k.ensures.items in
-    let before : c.loop-k.k ≡ k + 1 = omega (arith, c.loop-k-test.true) in
+    let code : Listing = c.args.code.now in
+    let blocks : List Op = c.args.blocks.now in
+    let inputs : ℕ = code.secrets + code.publics in
+    let op : Op = get_or blocks k (Const 0) in
+    let there : slice_get blocks k ≡ Some op = slice_get-get_or blocks k (Const 0) (omega (arith, c.loop-k.invariant.within, c.loop-k-test.true)) in
+    let own : List Place = c.unwrap-own.result in
+    let rest = left code blocks (k + 1) c.loop-k.k (inputs + k) (inputs + c.loop-k.k) c.loop-k.needs.items c.pop.new.self.items c.pop.result own
+    (omega (arith, c.loop-k-test.true)) (omega (arith, c.loop-k-test.true)) c.loop-k.invariant.reached c.pop.ensures.items c.unwrap-own.ensures in
     record {
       within = omega (arith, c.loop-k.invariant.within);
       reached =
-          reached-next c.args.code.now c.args.blocks.now c.requires.wired k op there c.loop-k.needs.items c.bring.new.needs.items c.bring-in-loop-k.new.needs.items
-          c.in_ok-own.own c.brought.result.now c.brought-in-loop-k.result.now c.passed_numbers-first.result.1 c.passed_numbers-first.result.0
-          (subst (λ (i : ℕ). AreReached c.args.code.now c.args.blocks.now i c.loop-k.needs.items) before c.loop-k.invariant.reached)
-          own one other c.passed_numbers-first.ensures.second c.passed_numbers-first.ensures.first c.in_ok-bring.ensures c.in_ok-bring-2.ensures;
+          reached-step code blocks c.requires.wired k op there own rest.1.1 c.pop.new.self.items c.pass_on.new.needs.items rest.0
+          (subst (λ (xs : List Place). IsPassedOn code k op xs c.pop.new.self.items c.pass_on.new.needs.items) c.as_slice.ensures.items c.in_ok-pass_on.ensures);
+      told =
+          subst (AreToldFrom code blocks (inputs + k)) (sym c.in_ok-push.ensures.items)
+          (told-more code blocks (inputs + k) (inputs + c.loop-k.k) c.loop-k.told.items c.in_ok-tell.field-0 own (omega (arith, c.loop-k-test.true)) c.loop-k.invariant.told
+          (reached-all code blocks c.requires.wired (k + 1) (inputs + k) own (omega (arith, c.loop-k.invariant.within, c.loop-k-test.true)) (omega arith) rest.1.0 rest.1.1)
+          c.in_ok-tell.ensures);
     }
+
+pub loop-init : goal.loop-init
+loop-init c =
+    let start : c.loop-k.k ≡ 0 = omega (arith, c.loop-k-test.false) in
+    let code : Listing = c.args.code.now in
+    let inputs : ℕ = code.secrets + code.publics in
+    let e : inputs + c.loop-k.k ≡ inputs - 0 = omega (arith, start) in
+    record {
+      within = omega arith;
+      reached =
+          subst (λ (n : ℕ). AreReached code c.args.blocks.now 0 n c.loop-k.needs.items) e
+          (subst (λ (k : ℕ). AreReached code c.args.blocks.now k (inputs + c.loop-k.k) c.loop-k.needs.items) start c.loop-k.invariant.reached);
+      told = subst (λ (n : ℕ). AreToldFrom code c.args.blocks.now n c.loop-k.told.items) e c.loop-k.invariant.told;
+    }
+
+pub loop-preserved : goal.loop-preserved
+loop-preserved c =
+    let code : Listing = c.args.code.now in
+    let blocks : List Op = c.args.blocks.now in
+    let inputs : ℕ = code.secrets + code.publics in
+    let n : ℕ = inputs - (c.loop.counter + 1) in
+    let below : c.loop.counter < inputs = omega (arith, c.secrets.ensures, c.publics.ensures, c.loop-test.true) in
+    let more : inputs - c.loop.counter ≡ n + 1 = omega (arith, below) in
+    let own : List Place = c.unwrap-own-in-loop.result in
+    let rest = left code blocks 0 0 n (inputs - c.loop.counter) c.loop.needs.items c.pop-in-loop.new.self.items c.pop-in-loop.result own (omega arith) more c.loop.invariant.reached
+    c.pop-in-loop.ensures.items c.unwrap-own-in-loop.ensures in
+    record {
+      within = omega (arith, below);
+      reached = rest.0;
+      told =
+          subst (AreToldFrom code blocks n) (sym c.in_ok-push-2.ensures.items)
+          (told-more code blocks n (inputs - c.loop.counter) c.loop.told.items c.in_ok-tell-2.field-0 own more c.loop.invariant.told
+          (reached-all code blocks c.requires.wired 0 n own (omega arith) (omega arith) rest.1.0 rest.1.1)
+          c.in_ok-tell-2.ensures);
+    }
+
+pub returns-clause-count : goal.returns-clause-count
+returns-clause-count c =
+    omega (arith, c.loop.invariant.told.long, c.secrets.ensures, c.publics.ensures, c.loop-test.false)
 
 pub returns-clause-places : goal.returns-clause-places
 returns-clause-places c =
-    let start : c.loop-k.k ≡ 0 = omega (arith, c.loop-k-test.false) in
-    reached-all c.args.code.now c.args.blocks.now c.requires.wired c.loop-k.needs.items
-    (subst (λ (i : ℕ). AreReached c.args.code.now c.args.blocks.now i c.loop-k.needs.items) start c.loop-k.invariant.reached)
+    let code : Listing = c.args.code.now in
+    let none : code.secrets + code.publics - c.loop.counter ≡ 0 = omega (arith, c.secrets.ensures, c.publics.ensures, c.loop-test.false) in
+    tells-of code c.args.blocks.now c.requires.wired c.loop.told.items
+    (subst (λ (n : ℕ). AreToldFrom code c.args.blocks.now n c.loop.told.items) none c.loop.invariant.told)

@@ -1,7 +1,7 @@
 -- What both lists still have is merged behind what there is.
 use Rattle.std.proofs.Common.{◌≡◌, ◌≤◌, ◌+◌, ◌-◌, ◌++◌, length, drop}
 use Rattle.mk_report.proofs.Merged.{merged}
-use Rattle.mk_report.proofs.need.union.Given as goal
+use Rattle.mk_report.proofs.need.merge.Given as goal
 
 abbrev pub invariant-loop-i : goal.invariant-loop-i
 invariant-loop-i l = record {
