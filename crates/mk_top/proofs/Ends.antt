@@ -1,5 +1,5 @@
 -- How a run ends, by its words, its input's bytes and the counts of faults.
-use Rattle.std.proofs.Common.{◌≡◌, ℕ, ◌≤◌, List, [], ◌∷◌, Option, Some, None, IfSome, Result, Ok, Err, IfErr, OnOk, length, inl, inr, refl, ap, sym, subst}
+use Rattle.std.proofs.Common.{◌≡◌, ℕ, ◌<◌, ◌≤◌, List, [], ◌∷◌, Option, Some, None, IfSome, Result, Ok, Err, IfErr, OnOk, length, inl, inr, refl, ap, sym, subst}
 use Rattle.std.specs.Prelude.{option_map, codes}
 use Rattle.mk_base.specs.Outside.{Rose}
 use Rattle.mk_bundle.specs.Pairs.{TextsDiffer}
@@ -81,7 +81,7 @@ stopped-because command given after reads then_reads before taken writes then_wr
 stopped-because command given after reads then_reads before taken writes then_writes fault_.ReadFault s = (s.1, s.2)
 stopped-because command given after reads then_reads before taken writes then_writes fault_.WriteFault s = s.rose
 stopped-because command given after reads then_reads before taken writes then_writes fault_.Memory s = tt
-stopped-because command given after reads then_reads before taken writes then_writes (fault_.TooLong at) s = s.1
+stopped-because command given after reads then_reads before taken writes then_writes (fault_.TooLong at) s = (s.1, s.2)
 
 -- why a command stopped is one of its answers
 pub stopped-answer : (command : Command) (given after : Option (List ℕ)) (reads then_reads : ℕ) (before taken : Option (List ℕ)) (writes then_writes : ℕ) (fault : Fault)
@@ -268,15 +268,6 @@ stopped-said word one two seen publics first second probes qs us xs ks P (Ok don
 stopped-said word one two seen publics first second probes qs us xs ks P (Err fault) says same holds =
     count-said word one two seen publics first second probes qs us xs ks (λ command. P command fault) says same holds
 
--- so a count that wants memory before it reads is one that stopped
-pub count-wanting : (word one two seen : List ℕ) (given after : Option (List ℕ)) (reads then_reads : ℕ) (before taken : Option (List ℕ)) (writes then_writes : ℕ) (r : Result (Unit {0}) Fault) (why : Fault)
-    → AreElements word → AreElements one → AreElements two → AreProbes seen → r ≡ Err why → why ≡ fault_.Memory
-    → IfErr r (λ fault. OfCount word one two seen (λ command. StoppedAt command given after reads then_reads before taken writes then_writes fault))
-count-wanting word one two seen given after reads then_reads before taken writes then_writes r why publics first second probes is wanted =
-    let P = λ (fault : Fault). OfCount word one two seen (λ command. StoppedAt command given after reads then_reads before taken writes then_writes fault) in
-    subst (λ (s : Result (Unit {0}) Fault). IfErr s P) (sym is)
-    (subst P (sym wanted) (publics.0, first.0, second.0, probes.0, publics.1, first.1, second.1, probes.1, tt))
-
 -- the tape that the words give has a word of elements, where it has a word
 tape-form : (kind word : List ℕ) (tape : TapeForm) → SaysTapeSo kind word tape → IsTapeForm tape
 tape-form kind word (tape_.Seed seed) says = tt
@@ -342,7 +333,7 @@ module _ (differ : TextsDiffer) where
           absurd (still (decides-one differ command bytes answer None decides (makes-decides words command bytes s.written asks s.makes s.read.0)) s.rose)
       go fault_.Memory s decides = inr refl
       go (fault_.Tapes elements) s decides = decided-fault command bytes (fault_.Tapes elements) answer (s.1.0, s.0) decides
-      go (fault_.TooLong at) s decides = decided-fault command bytes (fault_.TooLong at) answer s.1 decides
+      go (fault_.TooLong at) s decides = decided-fault command bytes (fault_.TooLong at) answer (s.1, subst (λ (l : ℕ). l < length bytes) (sym s.1) s.2) decides
 
   -- a command that was carried out answers what its bytes decide
   pub finished-decided : (words : List (List ℕ)) (command : Command) (given after before taken : Option (List ℕ)) (answer : Option Fault)

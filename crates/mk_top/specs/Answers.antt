@@ -238,13 +238,15 @@ Makes (Gen turns) given written = Generates turns written
 Makes (Trial turns order) given written = Tries turns order written
 
 -- Why a command answers a fault. Reading and writing fail only where the input's, the output's count of
--- faults rose, reading only while no more bytes than the limit came; want of memory is free, and the
--- bytes of the input decide every other fault.
+-- faults rose, reading only while no more bytes than the limit came; an input is too long by the command's
+-- own limit; want of memory is free, and the bytes of the input decide every other fault.
 abbrev pub Because : Command → Option (List ℕ) → Option (List ℕ) → ℕ → ℕ → ℕ → ℕ → Fault → Type 0
 Because command given after reads then_reads writes then_writes fault.ReadFault =
     Rose reads then_reads × IfSome given (λ bytes. CameWithin (limit_of command) bytes after)
 Because command given after reads then_reads writes then_writes fault.WriteFault = Rose writes then_writes
 Because command given after reads then_reads writes then_writes fault.Memory = Unit {0}
+Because command given after reads then_reads writes then_writes (fault.TooLong limit) =
+    (limit ≡ limit_of command) × IfSome given (λ bytes. limit_of command < length bytes)
 Because command given after reads then_reads writes then_writes why = IfSome given (λ bytes. Decides command bytes (Some why))
 
 -- the status of an answer: done, or that of its fault

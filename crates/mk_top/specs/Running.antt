@@ -12,7 +12,7 @@ use Rattle.mk_top.specs.Faults.{status_of}
 abbrev pub NotRead : ℕ → Option (List ℕ) → Option (List ℕ) → ℕ → ℕ → Fault → Type 0
 NotRead limit given after reads then_reads ReadFault = Rose reads then_reads × IfSome given (λ bytes. CameWithin limit bytes after)
 NotRead limit given after reads then_reads Memory = Unit {0}
-NotRead limit given after reads then_reads (TooLong at) = IfSome given (λ bytes. (at ≡ limit) × (limit < length bytes))
+NotRead limit given after reads then_reads (TooLong at) = (at ≡ limit) × IfSome given (λ bytes. limit < length bytes)
 NotRead limit given after reads then_reads _ = ⊥
 
 -- why there is no typed source: the text spells none, or one with a first offence, or memory was wanted
@@ -37,7 +37,7 @@ NoText command given after reads then_reads Words = ⊥
 NoText command given after reads then_reads ReadFault = Reads command × Rose reads then_reads × IfSome given (λ bytes. CameWithin (limit_of command) bytes after)
 NoText command given after reads then_reads WriteFault = ⊥
 NoText command given after reads then_reads Memory = Unit {0}
-NoText command given after reads then_reads (TooLong at) = Reads command × IfSome given (λ bytes. Decides command bytes (Some (TooLong at)))
+NoText command given after reads then_reads (TooLong at) = Reads command × (at ≡ limit_of command) × IfSome given (λ bytes. limit_of command < length bytes)
 NoText command given after reads then_reads fault =
     IfSome given (λ bytes. TextDecides command bytes (Some fault)) × ReadWhole (limit_of command) given after × IsAnswerOf command (status_of fault)
 

@@ -1,6 +1,7 @@
 //! Sources: read, typed, and then compiled or evaluated.
 
 ghost use Rattle.std.specs.Prelude.{◌≡◌, ◌≤◌, ◌<◌, ◌^◌, Some, IfOk, IfErr, length};
+ghost use Rattle.mk_base.specs.declared.TheConstants.{TOP_ORDER};
 ghost use Rattle.mk_types.specs.Elements.{maps_of};
 ghost use Rattle.mk_top.specs.Words.{Compile, Eval};
 ghost use Rattle.mk_top.specs.Answers.{Compiles, Evaluates, ReadWhole, limit_of};
@@ -31,7 +32,7 @@ pub(crate) fn typed_source(alloc: Global, source: &[u8]) -> Result<Typed, Fault>
 
 /// The bundle text that a source is compiled to at an order.
 fn text_of_source(alloc: Global, source: &[u8], order: u8) -> Result<Bytes, Fault>
-    requires order { (1 ≤ order) × (order ≤ 8) }
+    requires order { (1 ≤ order) × (order ≤ TOP_ORDER) }
     requires within { length source.now ≤ 1048576 }
     ensures compiled { IfOk result (Compiles order (Some source.now)) }
     ensures fault { IfErr result (NotMade (Compile order) source.now) }
@@ -68,7 +69,7 @@ pub(crate) fn compiled_text<S: Source>(
     src: &mut S,
     order: u8,
 ) -> Result<Bytes, Fault>
-    requires { (1 ≤ order) × (order ≤ 8) }
+    requires { (1 ≤ order) × (order ≤ TOP_ORDER) }
     ensures compiled { IfOk result (Compiles order (S.left src.old)) }
     ensures read { IfOk result (λ _. ReadWhole (limit_of (Compile order)) (S.left src.old) (S.left src.new)) }
     ensures fault { IfErr result (NoText (Compile order) (S.left src.old) (S.left src.new) (S.faults src.old) (S.faults src.new)) }

@@ -1,5 +1,6 @@
 ghost use Rattle.std.specs.Prelude.{◌≡◌, ◌≢◌, ◌≤◌, ◌<◌, ◌^◌, ◌⊎◌, ℕ, List, Option, Some, None, [], codes, IfSome, IfOk, IfErr, OnOk, length};
 ghost use Rattle.mk_base.specs.Outside.{Rose};
+ghost use Rattle.mk_base.specs.declared.TheConstants.{TOP_ORDER};
 ghost use Rattle.mk_top.specs.declared.fault.Fault.{Fault};
 ghost use Rattle.mk_top.specs.Words.{Command, Compile, Check, Eval, Run, Count, Report, Gen, Trial, GivenTape, SaysElements, Asks, IsForm, IsNoForm};
 ghost use Rattle.mk_top.specs.Forms.{AreElements, AreProbes, IsTapeForm, IsShort, OfElements, OfRun, OfCount, given_of};
@@ -51,7 +52,7 @@ fn compile_to<S: Source, O: Sink>(
     src: &mut S,
     out: &mut O,
 ) -> Result<(), Fault>
-    requires { (1 ≤ order) × (order ≤ 8) }
+    requires { (1 ≤ order) × (order ≤ TOP_ORDER) }
     ensures finished { OnOk result (Finished (Compile order) (S.left src.old) (S.left src.new) (O.taken out.old) (O.taken out.new)) }
     ensures stopped { IfErr result (StoppedAt (Compile order)
         (S.left src.old) (S.left src.new) (S.faults src.old) (S.faults src.new)
@@ -282,7 +283,7 @@ fn gen_to<O: Sink>(alloc: Global, turns: u32, out: &mut O) -> Result<(), Fault>
 /// Writes the line of what the generator's text with so many turns is compiled to at an order.
 fn trial_to<O: Sink>(alloc: Global, turns: u32, order: u8, out: &mut O) -> Result<(), Fault>
     requires turns { (1 ≤ turns) × (turns ≤ 3276) }
-    requires order { (1 ≤ order) × (order ≤ 8) }
+    requires order { (1 ≤ order) × (order ≤ TOP_ORDER) }
     ensures finished { OnOk result (Finished (Trial turns order) (Some []) (Some []) (O.taken out.old) (O.taken out.new)) }
     ensures stopped { (reads : ℕ) → IfErr result (StoppedAt (Trial turns order) (Some []) (Some []) reads reads
         (O.taken out.old) (O.taken out.new) (O.faults out.old) (O.faults out.new)) }

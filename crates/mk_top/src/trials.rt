@@ -1,6 +1,7 @@
 //! Trials: the generator's text, and what it is compiled to.
 
 ghost use Rattle.std.specs.Prelude.{◌≡◌, ◌≤◌, ◌++◌, [], IfOk, IfErr, OnOk, string_bytes, count_by};
+ghost use Rattle.mk_base.specs.declared.TheConstants.{TOP_ORDER};
 ghost use Rattle.mk_top.specs.Words.{Gen, Trial};
 ghost use Rattle.mk_top.specs.Answers.{Generates, Tries, is_refresh, trial_line};
 ghost use Rattle.mk_top.specs.Running.{NotMade};
@@ -55,7 +56,7 @@ fn line_of_trial(alloc: Global, code: &Code, cert: &Cert) -> Result<Bytes, Memor
 /// The line of what the generator's text with so many turns is compiled to at an order.
 pub(crate) fn trial_text(alloc: Global, turns: u32, order: u8) -> Result<Bytes, Fault>
     requires turns { (1 ≤ turns) × (turns ≤ 3276) }
-    requires order { (1 ≤ order) × (order ≤ 8) }
+    requires order { (1 ≤ order) × (order ≤ TOP_ORDER) }
     ensures tries { IfOk result (Tries turns order) }
     ensures fault { IfErr result (NotMade (Trial turns order) []) }
 {
