@@ -68,6 +68,20 @@ run_refusal code publics shares tape =
 abbrev pub tape_len : Listing → ℕ
 tape_len code = spent code + randoms code.instrs
 
+-- why public inputs and secrets are not taken with a whole tape: the number of the public inputs, or of the secrets,
+-- isn't the code's; or one of them, or of the tape, is no element
+abbrev pub inputs_refusal : Listing → List ℕ → List ℕ → List ℕ → Option InputRefusal
+inputs_refusal code publics secrets tape =
+    option_or (wrong_number publics code.publics)
+    (option_or (wrong_number secrets code.secrets)
+    (option_or (no_element code.field which_.Public publics)
+    (option_or (no_element code.field which_.Secret secrets) (no_element code.field which_.Tape tape))))
+
+-- why the code is not run on them, if it is not: they are not taken, or the whole tape is too short
+abbrev pub whole_refusal : Listing → List ℕ → List ℕ → List ℕ → Option RunRefusal
+whole_refusal code publics secrets tape =
+    option_or (option_map run_refusal_of (inputs_refusal code publics secrets tape)) (tape_short tape (tape_len code))
+
 -- how many tapes there are
 abbrev pub tapes : Listing → ℕ
 tapes code = size code.field ^ tape_len code

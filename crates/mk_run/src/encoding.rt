@@ -53,7 +53,12 @@ pub(crate) fn push_all(code: &Code, secrets: &[u8], tape: &[u8], shares: &mut Ve
 }
 
 /// The encodings of all secrets of a code.
-fn encoded(alloc: Global, code: &Code, secrets: &[u8], tape: &[u8]) -> Result<Bytes, Memory>
+pub(crate) fn encoded(
+    alloc: Global,
+    code: &Code,
+    secrets: &[u8],
+    tape: &[u8],
+) -> Result<Bytes, Memory>
     requires secrets { Elements (size code.now.field) code.now.secrets secrets.now }
     requires tape { Elements (size code.now.field) (length tape.now) tape.now }
     requires enough { spent code.now ≤ length tape.now }

@@ -1,6 +1,6 @@
 //! The inputs of a code: as many as it takes, and elements of its field.
 
-ghost use Rattle.std.specs.Prelude.{◌≡◌, ◌<◌, ◌≤◌, ◌^◌, ◌*◌, ◌+◌, Some, None, OnOk, IfErr, IfOk, length, not, nat_lt};
+ghost use Rattle.std.specs.Prelude.{◌≡◌, ◌<◌, ◌≤◌, ◌^◌, ◌*◌, ◌+◌, Some, None, OnOk, IfErr, length, not, nat_lt};
 ghost use Rattle.std.specs.List.{position};
 ghost use Rattle.mk_field.specs.Field.{size};
 ghost use Rattle.mk_code.specs.Counting.{Elements};
@@ -51,7 +51,7 @@ pub(crate) fn check_each(field: FieldId, which: Which, inputs: &[u8]) -> Result<
 }
 
 /// Whether the tape has at least as many elements as are wanted.
-fn check_tape(tape: &[u8], wanted: u32) -> Result<(), RunRefusal>
+pub(crate) fn check_tape(tape: &[u8], wanted: u32) -> Result<(), RunRefusal>
     requires { length tape.now < 2 ^ 32 }
     ensures right { OnOk result (tape_short tape.now wanted ≡ None) }
     ensures wrong { IfErr result (λ e. tape_short tape.now wanted ≡ Some e) }
@@ -174,8 +174,9 @@ pub(crate) fn check_worlds(
     check_each(field, Which::Other, second)
 }
 
-/// How many elements a tape has.
-pub(crate) fn tape_len_of(code: &Code) -> u32
+/// How many elements the whole tape of a run has: those that encode the secrets, and those that the code
+/// takes.
+pub fn tape_len_of(code: &Code) -> u32
     ensures { result ≡ tape_len code.now }
 {
     let _fits = code.field();

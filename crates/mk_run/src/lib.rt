@@ -6,6 +6,7 @@ mod counting;
 mod encoding;
 mod inputs;
 mod limits;
+mod masked;
 mod refusal;
 #[cfg(test)]
 mod run_tests;
@@ -17,6 +18,8 @@ mod tally;
 
 pub use counting::count;
 pub use encoding::encode_all;
+pub use inputs::tape_len_of;
+pub use masked::run_masked;
 pub use refusal::{CountRefusal, InputRefusal, RunRefusal};
 pub use running::{Trace, run_code};
 pub use seed::tape_from_seed;

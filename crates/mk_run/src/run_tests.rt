@@ -1,6 +1,8 @@
 //! Small codes that are run and counted.
 
-use crate::{CountRefusal, Row, RunRefusal, Table, count, encode_all, run_code, tape_from_seed};
+use crate::{
+    CountRefusal, Row, RunRefusal, Table, count, encode_all, run_code, run_masked, tape_from_seed,
+};
 use mk_base::{Items, Memory};
 use mk_code::{Code, CodeBuilder, Instr};
 use mk_field::{FieldId, Gf2, Gf256};
@@ -81,6 +83,23 @@ fn runs_a_partial_sum(rt: HostRuntime) -> Result<(), RunRefusal> {
     assert_eq!(rt; shares.as_slice(), [0, 1, 1, 0].as_slice());
     let trace = run_code(alloc, &code, &[], shares.as_slice(), &[1])?;
     assert_eq!(rt; trace.as_slice(), [0, 1, 1, 0, 1, 0, 1].as_slice());
+    Ok(())
+}
+
+#[test]
+fn runs_a_partial_sum_with_one_tape(rt: HostRuntime) -> Result<(), RunRefusal> {
+    let alloc = rt.alloc();
+    let code = partial_sum(alloc)?;
+    let trace = run_masked(alloc, &code, &[], &[1, 1], &[1, 0, 1])?;
+    assert_eq!(rt; trace.as_slice(), [0, 1, 1, 0, 1, 0, 1].as_slice());
+    let short = run_masked(alloc, &code, &[], &[1, 1], &[0, 0]).err();
+    assert_eq!(rt;
+        short,
+        Some(RunRefusal::TapeShort {
+            given: 2,
+            wanted: 3
+        })
+    );
     Ok(())
 }
 

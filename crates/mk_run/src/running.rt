@@ -37,7 +37,7 @@ pub(crate) fn finish(machine: &mut Machine<'_>, tape: &[u8])
 }
 
 /// The trace of a run on inputs that fit.
-fn traced(
+pub(crate) fn traced(
     alloc: Global,
     code: &Code,
     publics: &[u8],

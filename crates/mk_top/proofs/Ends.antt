@@ -7,7 +7,7 @@ use Rattle.mk_top.specs.declared.status.Status.TheVariants as status
 use Rattle.mk_top.specs.declared.fault.Fault.{Fault}
 use Rattle.mk_top.specs.declared.fault.Fault.TheVariants as fault_
 use Rattle.mk_top.specs.Words.{Command, Compile, Check, Eval, Run, Count, Report, Gen, Trial, GivenTape, Seed, Tape, SaysElements, SaysTape, SaysProbes, Asks}
-use Rattle.mk_top.specs.Forms.{AreElements, AreProbes, IsTapeForm, OfElements, OfRun, OfCount, SaysTapeSo, IsGivenBy, AsksSo}
+use Rattle.mk_top.specs.Forms.{AreElements, IsTapeForm, OfElements, OfRun, OfCount, SaysTapeSo, IsGivenBy, AsksSo}
 use Rattle.mk_top.specs.declared.command.Form.{Form}
 use Rattle.mk_top.specs.declared.command.Form.TheVariants as form
 use Rattle.mk_top.specs.declared.command.TapeForm.{TapeForm}

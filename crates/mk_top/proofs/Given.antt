@@ -28,9 +28,9 @@ use Rattle.mk_run.specs.declared.refusal.RunRefusal.{RunRefusal}
 use Rattle.mk_run.specs.declared.refusal.RunRefusal.TheVariants as run
 use Rattle.mk_run.specs.declared.refusal.CountRefusal.{CountRefusal}
 use Rattle.mk_run.specs.declared.refusal.CountRefusal.TheVariants as count
-use Rattle.mk_run.specs.Refusals.{count_refusal}
+use Rattle.mk_run.specs.Refusals.{count_refusal, whole_refusal}
 use Rattle.mk_code.specs.Private.{masked_trace}
-use Rattle.mk_top.specs.Runs.{Runs, tape_of, whole_refusal, run_text}
+use Rattle.mk_top.specs.Runs.{Runs, tape_of, run_text}
 use Rattle.mk_top.specs.Faults.{fault_of_source, fault_of_eval, fault_of_run, fault_of_count, status_of}
 use Rattle.mk_top.specs.Running.{NotMade, NoText}
 use Rattle.mk_top.proofs.Causes.{IsLimitOrIndex, cause-kind}

@@ -6,7 +6,6 @@ pub mod Given
 pub mod Deciding
 pub mod Ends
 pub mod Digits
-pub mod Taken
 pub mod Lines
 pub mod Tried
 pub mod Decimals

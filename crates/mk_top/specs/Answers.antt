@@ -24,7 +24,7 @@ use Rattle.mk_types.specs.Elements.{maps_of}
 use Rattle.mk_types.specs.Meaning.{result}
 use Rattle.mk_unroll.specs.Causes.{Cause}
 use Rattle.mk_eval.specs.Refusals.{refusal}
-use Rattle.mk_run.specs.Refusals.{count_refusal}
+use Rattle.mk_run.specs.Refusals.{count_refusal, whole_refusal}
 use Rattle.mk_report.specs.Report.{IsReport}
 use Rattle.mk_gen.specs.Generated.{IsGenerated, generated}
 use Rattle.mk_place.specs.Different.{AllDifferButRefreshes}
@@ -40,7 +40,7 @@ use Rattle.mk_top.specs.declared.fault.CheckFault.{CheckFault}
 use Rattle.mk_top.specs.declared.fault.CheckFault.TheVariants as check
 use Rattle.mk_top.specs.Sources.{HasFirstOffence, IsSourceOf, IsNoSource}
 use Rattle.mk_top.specs.Faults.{fault_of_eval, fault_of_run, fault_of_count, status_of, fault_line}
-use Rattle.mk_top.specs.Runs.{Runs, tape_of, whole_refusal}
+use Rattle.mk_top.specs.Runs.{Runs, tape_of}
 use Rattle.mk_top.specs.Counts.{Counts}
 
 -- the most bytes that a command reads: of a source, of a bundle, and none

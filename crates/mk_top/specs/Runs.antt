@@ -1,18 +1,14 @@
--- What `run` takes and writes: its whole tape, why inputs are refused, and the lines of the outputs.
-use Rattle.std.specs.Prelude.{◌≡◌, ℕ, zero, suc, ◌+◌, ◌/◌, List, [], ◌∷◌, ◌++◌, Option, None, IfSome, length, take, drop, codes, decimal, option_map, refl}
-use Rattle.std.specs.Option.{option_or}
+-- What `run` takes and writes: its whole tape, and the lines of the outputs.
+use Rattle.std.specs.Prelude.{◌≡◌, ℕ, zero, suc, ◌+◌, ◌/◌, List, [], ◌∷◌, ◌++◌, Option, None, IfSome, length, take, drop, codes, decimal, refl}
 use Rattle.std.specs.Fmt.{digits}
 use Rattle.hex.specs.Hex.{encode_with}
-use Rattle.mk_base.specs.declared.Which.TheVariants as which_
 use Rattle.mk_field.specs.Sharing.{field_sum}
 use Rattle.mk_code.specs.Listing.{Listing}
 use Rattle.mk_code.specs.Private.{observation, masked_trace}
 use Rattle.mk_rules.specs.Claimed.{Claimed}
 use Rattle.mk_bundle.specs.Text.{text}
 use Rattle.mk_bundle.specs.Pairs.{IsPair}
-use Rattle.mk_run.specs.declared.refusal.InputRefusal.{InputRefusal}
-use Rattle.mk_run.specs.declared.refusal.RunRefusal.{RunRefusal}
-use Rattle.mk_run.specs.Refusals.{wrong_number, no_element, tape_short, run_refusal_of, tape_len}
+use Rattle.mk_run.specs.Refusals.{tape_len, whole_refusal}
 use Rattle.mk_run.specs.Seed.{seed_tape}
 use Rattle.mk_top.specs.Words.{GivenTape, Seed, Tape, elements_word}
 
@@ -21,20 +17,6 @@ use Rattle.mk_top.specs.Words.{GivenTape, Seed, Tape, elements_word}
 abbrev pub tape_of : Listing → GivenTape → List ℕ
 tape_of code (Seed seed) = seed_tape code.field seed (tape_len code)
 tape_of code (Tape elements) = elements
-
--- why inputs are not taken with this whole tape: the number of the public inputs, or of the secrets, isn't the
--- code's; or one of them, or of the tape, is no element
-abbrev pub inputs_refusal : Listing → List ℕ → List ℕ → List ℕ → Option InputRefusal
-inputs_refusal code publics secrets tape =
-    option_or (wrong_number publics code.publics)
-    (option_or (wrong_number secrets code.secrets)
-    (option_or (no_element code.field which_.Public publics)
-    (option_or (no_element code.field which_.Secret secrets) (no_element code.field which_.Tape tape))))
-
--- why the code is not run on them, if it is not: they are not taken, or the whole tape is too short
-abbrev pub whole_refusal : Listing → List ℕ → List ℕ → List ℕ → Option RunRefusal
-whole_refusal code publics secrets tape =
-    option_or (option_map run_refusal_of (inputs_refusal code publics secrets tape)) (tape_short tape (tape_len code))
 
 -- the line of an output: its number, the word of its shares, and the word of their sum
 abbrev pub output_line : ℕ → List ℕ → List ℕ

@@ -8,7 +8,6 @@ mod command;
 mod counts;
 mod elements;
 mod fault;
-mod inputs;
 mod numbers;
 mod outputs;
 mod reading;

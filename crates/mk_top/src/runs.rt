@@ -1,23 +1,22 @@
 //! Runs of the code of a bundle.
 
 ghost use Rattle.std.specs.Prelude.{◌≡◌, ◌⊎◌, ◌≤◌, ◌<◌, ◌^◌, Some, None, IfOk, IfErr, length};
-ghost use Rattle.mk_code.specs.Listing.{trace_len};
 ghost use Rattle.mk_code.specs.Private.{masked_trace};
+ghost use Rattle.mk_run.specs.Refusals.{whole_refusal};
 ghost use Rattle.mk_run.specs.declared.refusal.RunRefusal.TheVariants as refusal_;
 ghost use Rattle.mk_top.specs.Words.{Run};
 ghost use Rattle.mk_top.specs.Forms.{given_of, IsShort};
-ghost use Rattle.mk_top.specs.Runs.{Runs, tape_of, whole_refusal, run_text};
+ghost use Rattle.mk_top.specs.Runs.{Runs, tape_of, run_text};
 ghost use Rattle.mk_top.specs.Answers.{ReadWhole, limit_of};
 ghost use Rattle.mk_top.specs.Running.{NotMade, NoText};
 
 use crate::fault::Fault;
-use crate::inputs::{check_whole, spent_by, tape_len_of};
 use crate::outputs::outputs_text;
 use crate::reading::{BUNDLE_LIMIT, whole_text};
 use mk_base::{Bytes, Source};
 use mk_bundle::read_bundle;
 use mk_code::Code;
-use mk_run::{RunRefusal, Trace, encode_all, run_code, tape_from_seed};
+use mk_run::{RunRefusal, run_masked, tape_from_seed, tape_len_of};
 use std::alloc::Global;
 
 /// Where the whole tape of a run comes from.
@@ -27,29 +26,6 @@ pub(crate) enum WholeTape<'a> {
     Seed { seed: [u8; 32] },
     /// These are its elements.
     Elements { elements: &'a [u8] },
-}
-
-/// The trace of a run whose secrets are encoded by the first elements of the whole tape, and which takes its
-/// random elements from the rest.
-fn masked_run(
-    alloc: Global,
-    code: &Code,
-    publics: &[u8],
-    secrets: &[u8],
-    tape: &[u8],
-) -> Result<Trace, RunRefusal>
-    requires publics { length publics.now < 2 ^ 32 }
-    requires secrets { length secrets.now < 2 ^ 32 }
-    requires tape { length tape.now < 2 ^ 32 }
-    ensures trace { IfOk result (λ entries. entries ≡ masked_trace code.now publics.now secrets.now tape.now) }
-    ensures count { IfOk result (λ entries. length entries ≡ trace_len code.now) }
-    ensures taken { IfOk result (λ _. whole_refusal code.now publics.now secrets.now tape.now ≡ None) }
-    ensures refused { IfErr result (λ e. (e ≡ refusal_.Memory) ⊎ (whole_refusal code.now publics.now secrets.now tape.now ≡ Some e)) }
-{
-    check_whole(code, publics, secrets, tape)?;
-    let (first, rest) = tape.split_at(spent_by(code) as usize);
-    let shares = encode_all(alloc, code, secrets, first)?;
-    run_code(alloc, code, publics, shares.as_slice(), rest)
 }
 
 /// The lines of the outputs of a run with this whole tape.
@@ -67,7 +43,7 @@ fn text_on(
     ensures taken { IfOk result (λ _. whole_refusal code.now publics.now secrets.now tape.now ≡ None) }
     ensures refused { IfErr result (λ e. (e ≡ refusal_.Memory) ⊎ (whole_refusal code.now publics.now secrets.now tape.now ≡ Some e)) }
 {
-    let entries = masked_run(alloc, code, publics, secrets, tape)?;
+    let entries = run_masked(alloc, code, publics, secrets, tape)?;
     Ok(outputs_text(alloc, code, entries.as_slice())?)
 }
 

@@ -1,14 +1,14 @@
-ghost use Rattle.std.specs.Prelude.{◌≡◌, ◌≢◌, ◌≤◌, ◌<◌, ◌^◌, ◌⊎◌, ℕ, List, Option, Some, None, [], codes, IfSome, IfOk, IfErr, OnOk, length};
+ghost use Rattle.std.specs.Prelude.{◌≡◌, ◌≢◌, ◌≤◌, ◌<◌, ◌^◌, ◌⊎◌, ℕ, List, Option, Some, None, [], codes, IfSome, IfErr, OnOk, length};
 ghost use Rattle.mk_base.specs.Outside.{Rose};
 ghost use Rattle.mk_base.specs.declared.TheConstants.{TOP_ORDER};
 ghost use Rattle.mk_top.specs.declared.fault.Fault.{Fault};
-ghost use Rattle.mk_top.specs.Words.{Command, Compile, Check, Eval, Run, Count, Report, Gen, Trial, GivenTape, SaysElements, Asks, IsForm, IsNoForm};
+ghost use Rattle.mk_top.specs.Words.{Command, Compile, Check, Eval, Run, Count, Report, Gen, Trial, GivenTape, Asks, IsForm, IsNoForm};
 ghost use Rattle.mk_top.specs.Forms.{AreElements, AreProbes, IsTapeForm, IsShort, OfElements, OfRun, OfCount, given_of};
 ghost use Rattle.mk_top.specs.Faults.{status_of, fault_line};
 ghost use Rattle.mk_top.specs.Answers.{Compiles, Checks, Evaluates, Reports, Generates, Tries, Makes, Decides, Because, Reads, input_of, TakesWhole, TakesSome, Tells, answer_status, IsOrMemory, ReadsToEnd, ReadWhole, limit_of, WritesNothing, IsAnswerOf};
 ghost use Rattle.mk_top.specs.Runs.{Runs};
 ghost use Rattle.mk_top.specs.Counts.{Counts};
-ghost use Rattle.mk_top.specs.Running.{Finished, Cut, StoppedAt, Stopped, ReadsOrLeaves};
+ghost use Rattle.mk_top.specs.Running.{Finished, StoppedAt, Stopped, ReadsOrLeaves};
 
 use crate::bundle::check_bundle;
 use crate::command::{Form, TapeForm, form_asked};

@@ -1,6 +1,6 @@
 //! Trials: the generator's text, and what it is compiled to.
 
-ghost use Rattle.std.specs.Prelude.{◌≡◌, ◌≤◌, ◌++◌, [], IfOk, IfErr, OnOk, string_bytes, count_by};
+ghost use Rattle.std.specs.Prelude.{◌≡◌, ◌≤◌, [], IfOk, IfErr, count_by};
 ghost use Rattle.mk_base.specs.declared.TheConstants.{TOP_ORDER};
 ghost use Rattle.mk_top.specs.Words.{Gen, Trial};
 ghost use Rattle.mk_top.specs.Answers.{Generates, Tries, is_refresh, trial_line};
