@@ -3,7 +3,7 @@ use Rattle.std.specs.Prelude.{ℕ, List, ◌++◌, codes, decimal}
 use Rattle.mk_ssa.specs.declared.Operand.{Operand}
 use Rattle.mk_ssa.specs.declared.Op.{Op}
 use Rattle.mk_ssa.specs.declared.Op.TheVariants.{Const, PubAdd, PubMul, PubSq, PubMap, Lift, Add, AddPub, Scale, Sq, Map, Mul, Refresh}
-use Rattle.mk_bundle.specs.Words.{line, hex_byte, operand_word}
+use Rattle.mk_lines.specs.Words.{line, hex_byte, operand_word}
 
 -- the line of a block of this kind with these words behind it
 abbrev pub block_line : List ℕ → List ℕ → List ℕ

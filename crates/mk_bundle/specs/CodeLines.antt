@@ -3,7 +3,7 @@ use Rattle.std.specs.Prelude.{ℕ, zero, suc, List, [], ◌++◌, take, drop, fl
 use Rattle.mk_field.specs.declared.map.AddMap.{AddMap}
 use Rattle.mk_code.specs.declared.instr.Instr.{Instr}
 use Rattle.mk_code.specs.declared.instr.Instr.TheVariants.{Rnd, Const, Copy, Add, Mul, Sq, Map}
-use Rattle.mk_bundle.specs.Words.{line, hex_byte}
+use Rattle.mk_lines.specs.Words.{line, hex_byte}
 
 -- the line of a map: the images of the eight bits, that of bit 0 first
 abbrev pub map_line : AddMap → List ℕ

@@ -1,4 +1,3 @@
-pub mod Words
 pub mod CertLines
 pub mod CodeLines
 pub mod Text

@@ -2,22 +2,14 @@
 use Rattle.std.specs.Prelude.{◌≡◌, ℕ, ◌^◌, ◌≤◌, ◌<◌, ◌==◌, Bool, true, false, List, [], ◌∷◌, ◌++◌, length, flat_map, if◌then◌else◌}
 use Rattle.std.specs.List.{AllByRecursion}
 use Rattle.mk_field.specs.declared.map.AddMap.{AddMap}
-use Rattle.mk_ssa.specs.declared.Operand.{Operand}
-use Rattle.mk_ssa.specs.declared.Operand.TheVariants.{Secret, Public, Block}
 use Rattle.mk_ssa.specs.declared.Op.{Op}
 use Rattle.mk_ssa.specs.declared.Op.TheVariants.{Const, PubAdd, PubMul, PubSq, PubMap, Lift, Add, AddPub, Scale, Sq, Map, Mul, Refresh}
 use Rattle.mk_code.specs.Listing.{Listing, IsListing}
 use Rattle.mk_rules.specs.Claimed.{Claimed}
-use Rattle.mk_bundle.specs.Words.{line}
+use Rattle.mk_lines.specs.Words.{OperandFits, line}
 use Rattle.mk_bundle.specs.Text.{text}
 
--- the number of an operand has 32 bits, whatever it stands for
-abbrev pub OperandFits : Operand → Type 0
-OperandFits (Secret number) = number < 2 ^ 32
-OperandFits (Public number) = number < 2 ^ 32
-OperandFits (Block number) = number < 2 ^ 32
-
--- so has the number of a map, and a constant is a byte
+-- the number of each operand has 32 bits, that of a map too, and a constant is a byte
 abbrev pub OpFits : Op → Type 0
 OpFits (Const value) = value < 256
 OpFits (PubAdd left right) = OperandFits left × OperandFits right

@@ -7,7 +7,7 @@ use Rattle.mk_ssa.specs.declared.Op.TheVariants as op
 use Rattle.mk_code.specs.declared.instr.Instr.TheVariants.{Rnd, Const, Copy, Add, Mul, Sq, Map}
 use Rattle.mk_code.specs.Listing.{Listing}
 use Rattle.mk_rules.specs.Claimed.{Claimed}
-use Rattle.mk_bundle.specs.Words.{line}
+use Rattle.mk_lines.specs.Words.{line}
 use Rattle.mk_bundle.specs.CodeLines.{out_lines}
 use Rattle.mk_bundle.specs.Text.{text}
 

@@ -26,7 +26,6 @@ mod lines;
 mod parse;
 mod read;
 mod text;
-mod words;
 
 pub use read::{BundleRefusal, MOST_BYTES, read_bundle, texts_differ};
 pub use text::to_text;

@@ -1,13 +1,13 @@
 ghost use Rattle.std.specs.Prelude.{◌≡◌, ◌<◌, length, ◌^◌, ◌++◌, OnOk, string_bytes, flat_map};
 ghost use Rattle.std.specs.List.{AllByRecursion};
-ghost use Rattle.mk_bundle.specs.Words.{hex_byte, operand_word};
+ghost use Rattle.mk_lines.specs.Words.{OperandFits, hex_byte, operand_word};
 ghost use Rattle.mk_bundle.specs.CertLines.{block_line, pair_words, mapped_words, op_line, claim_line};
-ghost use Rattle.mk_bundle.specs.Pairs.{OperandFits, OpFits, MapFits};
+ghost use Rattle.mk_bundle.specs.Pairs.{OpFits, MapFits};
 ghost use Rattle.mk_bundle.specs.CodeLines.{map_line, instr_line, place_word, out_line};
 
-use crate::words::{push_hex, push_operand};
 use mk_code::Instr;
 use mk_field::AddMap;
+use mk_lines::{push_hex, push_operand};
 use mk_ssa::{Op, Operand};
 use std::alloc::AllocError;
 

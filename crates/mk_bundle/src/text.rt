@@ -1,7 +1,8 @@
 ghost use Rattle.std.specs.Prelude.{◌≡◌, ◌≤◌, ◌<◌, ◌/◌, ◌++◌, length, IfOk, OnOk, string_bytes, flat_map};
 ghost use Rattle.std.specs.List.{AllByRecursion};
 ghost use Rattle.mk_code.specs.Listing.{IsListing};
-ghost use Rattle.mk_bundle.specs.Pairs.{OperandFits, OpFits, MapFits, IsPair};
+ghost use Rattle.mk_lines.specs.Words.{OperandFits};
+ghost use Rattle.mk_bundle.specs.Pairs.{OpFits, MapFits, IsPair};
 ghost use Rattle.mk_bundle.specs.CertLines.{op_line, claim_line};
 ghost use Rattle.mk_bundle.specs.CodeLines.{map_line, instr_line, out_lines};
 ghost use Rattle.mk_bundle.specs.Text.{field_line, number_line, head_lines, text};

@@ -18,7 +18,7 @@ use Rattle.mk_types.specs.Stops.{Index as IndexStop, operations, stop}
 use Rattle.mk_types.proofs.ExecutionLayers.{evaluated_layers, expr_units_layers, stmt_units_layers}
 use Rattle.mk_unroll.specs.Causes.{Elements, Stops}
 use Rattle.mk_top.specs.declared.fault.Fault.TheVariants as fault
-use Rattle.mk_top.specs.declared.fault.SourceFault.TheVariants as source
+use Rattle.mk_words.specs.declared.fault.SourceFault.TheVariants as source
 use Rattle.mk_top.specs.Answers.{CompileDecides}
 
 -- a variable of this class and size, declared at this place

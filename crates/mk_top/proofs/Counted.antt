@@ -9,7 +9,7 @@ use Rattle.mk_bundle.specs.Pairs.{IsPair}
 use Rattle.mk_run.specs.declared.refusal.CountRefusal.{CountRefusal}
 use Rattle.mk_run.specs.declared.refusal.CountRefusal.TheVariants as count
 use Rattle.mk_run.specs.Refusals.{count_refusal}
-use Rattle.mk_top.specs.Words.{Count}
+use Rattle.mk_words.specs.Words.{Count}
 use Rattle.mk_top.specs.Counts.{Counts}
 use Rattle.mk_top.specs.Faults.{fault_of_count}
 use Rattle.mk_top.specs.Running.{NotMade}

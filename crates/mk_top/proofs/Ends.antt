@@ -3,19 +3,21 @@ use Rattle.std.proofs.Common.{◌≡◌, ℕ, ◌<◌, ◌≤◌, List, [], ◌�
 use Rattle.std.specs.Prelude.{option_map, codes}
 use Rattle.mk_base.specs.Outside.{Rose}
 use Rattle.mk_bundle.specs.Pairs.{TextsDiffer}
-use Rattle.mk_top.specs.declared.status.Status.TheVariants as status
+use Rattle.mk_words.specs.declared.status.Status.TheVariants as status
 use Rattle.mk_top.specs.declared.fault.Fault.{Fault}
 use Rattle.mk_top.specs.declared.fault.Fault.TheVariants as fault_
-use Rattle.mk_top.specs.Words.{Command, Compile, Check, Eval, Run, Count, Report, Gen, Trial, GivenTape, Seed, Tape, SaysElements, SaysTape, SaysProbes, Asks}
-use Rattle.mk_top.specs.Forms.{AreElements, IsTapeForm, OfElements, OfRun, OfCount, SaysTapeSo, IsGivenBy, AsksSo}
-use Rattle.mk_top.specs.declared.command.Form.{Form}
-use Rattle.mk_top.specs.declared.command.Form.TheVariants as form
-use Rattle.mk_top.specs.declared.command.TapeForm.{TapeForm}
-use Rattle.mk_top.specs.declared.command.TapeForm.TheVariants as tape_
-use Rattle.mk_top.specs.Faults.{fault_of_eval, fault_of_run, fault_of_count, status_of}
+use Rattle.mk_words.specs.Words.{Command, Compile, Check, Eval, Run, Count, Report, Gen, Trial, GivenTape, Seed, Tape, SaysElements, SaysTape, SaysProbes, Asks}
+use Rattle.mk_words.specs.Forms.{AreElements, IsTapeForm, SaysTapeSo, AsksSo}
+use Rattle.mk_top.specs.Forms.{OfElements, OfRun, OfCount, IsGivenBy}
+use Rattle.mk_words.specs.declared.command.Form.{Form}
+use Rattle.mk_words.specs.declared.command.Form.TheVariants as form
+use Rattle.mk_words.specs.declared.command.TapeForm.{TapeForm}
+use Rattle.mk_words.specs.declared.command.TapeForm.TheVariants as tape_
+use Rattle.mk_top.specs.Faults.{status_of, fault_of_eval, fault_of_run, fault_of_count}
 use Rattle.mk_top.specs.Answers.{ReadWhole, Reads, input_of, Makes, Decides, TextDecides, Because, TakesWhole, TakesSome, IsOrMemory, answer_status, limit_of, IsAnswerOf}
 use Rattle.mk_top.specs.Running.{Finished, StoppedAt, Stopped, ReadsOrLeaves}
-use Rattle.mk_top.proofs.Deciding.{asks-one, decides-one}
+use Rattle.mk_words.proofs.Asking.{asks-one}
+use Rattle.mk_top.proofs.Deciding.{decides-one}
 use Rattle.mk_top.proofs.Tried.{tries-decides}
 
 -- what a command makes of its input decides that there is no fault

@@ -4,7 +4,7 @@ use Rattle.std.specs.Prelude.{option_map}
 use Rattle.mk_base.specs.Streams.{ReadsAll}
 use Rattle.mk_top.specs.declared.fault.Fault.{Fault}
 use Rattle.mk_top.specs.declared.fault.Fault.TheVariants as fault_
-use Rattle.mk_top.specs.Words.{Command, Compile, Check, Eval, Run, Count, Report, Gen, Trial, GivenTape}
+use Rattle.mk_words.specs.Words.{Command, Compile, Check, Eval, Run, Count, Report, Gen, Trial, GivenTape}
 use Rattle.mk_code.specs.Listing.{Listing}
 use Rattle.mk_code.specs.Private.{Private}
 use Rattle.mk_rules.specs.Claimed.{Claimed}
@@ -31,7 +31,7 @@ use Rattle.mk_run.specs.declared.refusal.CountRefusal.TheVariants as count
 use Rattle.mk_run.specs.Refusals.{count_refusal, whole_refusal}
 use Rattle.mk_code.specs.Private.{masked_trace}
 use Rattle.mk_top.specs.Runs.{Runs, tape_of, run_text}
-use Rattle.mk_top.specs.Faults.{fault_of_source, fault_of_eval, fault_of_run, fault_of_count, status_of}
+use Rattle.mk_top.specs.Faults.{fault_of_source, status_of, fault_of_eval, fault_of_run, fault_of_count}
 use Rattle.mk_top.specs.Running.{NotMade, NoText}
 use Rattle.mk_top.proofs.Causes.{IsLimitOrIndex, cause-kind}
 use Rattle.mk_top.proofs.Texts.{short-text}

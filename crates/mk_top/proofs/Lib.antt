@@ -1,13 +1,10 @@
 pub mod Cases
 pub mod Causes
 pub mod Texts
-pub mod Commands
 pub mod Given
 pub mod Deciding
 pub mod Ends
-pub mod Digits
 pub mod Lines
 pub mod Tried
-pub mod Decimals
 pub mod Counted
 pub mod Reported

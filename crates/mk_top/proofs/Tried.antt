@@ -31,8 +31,8 @@ use Rattle.mk_gen.specs.Generated.{declaration_lines, generated, IsGenerated}
 use Rattle.mk_gen.proofs.Spelled.{generated_program}
 use Rattle.mk_top.specs.declared.fault.Fault.{Fault}
 use Rattle.mk_top.specs.declared.fault.Fault.TheVariants as fault
-use Rattle.mk_top.specs.declared.fault.SourceFault.TheVariants as source
-use Rattle.mk_top.specs.Words.{Trial}
+use Rattle.mk_words.specs.declared.fault.SourceFault.TheVariants as source
+use Rattle.mk_words.specs.Words.{Trial}
 use Rattle.mk_top.specs.Answers.{Tries, TrialDecides, is_refresh, trial_line}
 use Rattle.mk_top.specs.Sources.{IsSourceOf}
 use Rattle.mk_top.specs.Faults.{fault_of_source}

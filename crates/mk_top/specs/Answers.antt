@@ -30,16 +30,16 @@ use Rattle.mk_gen.specs.Generated.{IsGenerated, generated}
 use Rattle.mk_place.specs.Different.{AllDifferButRefreshes}
 use Rattle.mk_compile.specs.Compiled.{IsWithin, IsCertified}
 use Rattle.mk_compile.specs.Correct.{Correct}
-use Rattle.mk_top.specs.Words.{Command, Compile, Check, Eval, Run, Count, Report, Gen, Trial, GivenTape, elements_word}
-use Rattle.mk_top.specs.declared.status.Status.{Status}
-use Rattle.mk_top.specs.declared.status.Status.TheVariants as status
+use Rattle.mk_words.specs.Words.{Command, Compile, Check, Eval, Run, Count, Report, Gen, Trial, GivenTape, elements_word}
+use Rattle.mk_words.specs.declared.status.Status.{Status}
+use Rattle.mk_words.specs.declared.status.Status.TheVariants as status
 use Rattle.mk_top.specs.declared.fault.Fault.{Fault}
 use Rattle.mk_top.specs.declared.fault.Fault.TheVariants as fault
-use Rattle.mk_top.specs.declared.fault.SourceFault.TheVariants as source
-use Rattle.mk_top.specs.declared.fault.CheckFault.{CheckFault}
-use Rattle.mk_top.specs.declared.fault.CheckFault.TheVariants as check
+use Rattle.mk_words.specs.declared.fault.SourceFault.TheVariants as source
+use Rattle.mk_words.specs.declared.fault.CheckFault.{CheckFault}
+use Rattle.mk_words.specs.declared.fault.CheckFault.TheVariants as check
 use Rattle.mk_top.specs.Sources.{HasFirstOffence, IsSourceOf, IsNoSource}
-use Rattle.mk_top.specs.Faults.{fault_of_eval, fault_of_run, fault_of_count, status_of, fault_line}
+use Rattle.mk_top.specs.Faults.{status_of, fault_line, fault_of_eval, fault_of_run, fault_of_count}
 use Rattle.mk_top.specs.Runs.{Runs, tape_of}
 use Rattle.mk_top.specs.Counts.{Counts}
 

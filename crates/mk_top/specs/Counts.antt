@@ -9,7 +9,7 @@ use Rattle.mk_bundle.specs.Pairs.{IsPair}
 use Rattle.mk_run.specs.declared.table.Row.{Row}
 use Rattle.mk_run.specs.Refusals.{count_refusal}
 use Rattle.mk_run.specs.Table.{IsTable}
-use Rattle.mk_top.specs.Words.{elements_word}
+use Rattle.mk_words.specs.Words.{elements_word}
 
 -- the line of a row: the word of what is seen, and the number of tapes that show it in each world
 abbrev pub row_line : Row → List ℕ

@@ -1,5 +1,4 @@
 pub mod Sources
-pub mod Words
 pub mod Forms
 pub mod Runs
 pub mod Counts

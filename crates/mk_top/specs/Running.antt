@@ -4,7 +4,7 @@ use Rattle.mk_base.specs.Outside.{Rose}
 use Rattle.mk_base.specs.Streams.{CameWithin}
 use Rattle.mk_top.specs.declared.fault.Fault.{Fault}
 use Rattle.mk_top.specs.declared.fault.Fault.TheVariants.{Words, Source, ReadFault, WriteFault, Memory, TooLong}
-use Rattle.mk_top.specs.Words.{Command, Asks, IsNoForm}
+use Rattle.mk_words.specs.Words.{Command, Asks, IsNoForm}
 use Rattle.mk_top.specs.Answers.{ReadWhole, Makes, SourceDecides, TextDecides, limit_of, input_of, Reads, TakesWhole, TakesSome, IsAnswerOf}
 use Rattle.mk_top.specs.Faults.{status_of}
 

@@ -10,7 +10,7 @@ use Rattle.mk_bundle.specs.Text.{text}
 use Rattle.mk_bundle.specs.Pairs.{IsPair}
 use Rattle.mk_run.specs.Refusals.{tape_len, whole_refusal}
 use Rattle.mk_run.specs.Seed.{seed_tape}
-use Rattle.mk_top.specs.Words.{GivenTape, Seed, Tape, elements_word}
+use Rattle.mk_words.specs.Words.{GivenTape, Seed, Tape, elements_word}
 
 -- the whole tape of a run: the elements that are given, or as many of the seed's as the encodings of the secrets
 -- and the code take

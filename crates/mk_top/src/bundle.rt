@@ -1,5 +1,5 @@
 ghost use Rattle.std.specs.Prelude.{◌≡◌, ◌≤◌, Some, OnOk, IfErr, length};
-ghost use Rattle.mk_top.specs.Words.{Check};
+ghost use Rattle.mk_words.specs.Words.{Check};
 ghost use Rattle.mk_top.specs.Answers.{Checks, ReadWhole, limit_of};
 ghost use Rattle.mk_top.specs.Running.{NotMade, NoText};
 

@@ -2,24 +2,25 @@
 
 ghost use Rattle.std.specs.Prelude.{◌≡◌, ◌++◌, ◌≤◌, ◌<◌, ◌^◌, Some, IfOk, IfErr, OnOk, length, string_bytes, nat_eq, flat_map};
 ghost use Rattle.std.specs.List.{list_all};
-ghost use Rattle.mk_top.specs.Words.{Count};
+ghost use Rattle.mk_words.specs.Words.{Count};
 ghost use Rattle.mk_top.specs.Counts.{Counts, row_line, table_text};
 ghost use Rattle.mk_top.specs.Answers.{ReadWhole, limit_of};
 ghost use Rattle.mk_top.specs.Running.{NotMade, NoText};
 
 use crate::fault::Fault;
-use crate::outputs::{bytes_of, push_word};
+use crate::outputs::bytes_of;
 use crate::reading::{BUNDLE_LIMIT, whole_text};
 use mk_base::{Bytes, Memory, Source};
 use mk_bundle::read_bundle;
 use mk_run::{Row, count};
+use mk_words::push_elements;
 use std::alloc::Global;
 
 /// Appends the line of a row.
 fn push_row(alloc: Global, text: &mut String, row: &Row) -> Result<(), Memory>
     ensures { OnOk result (string_bytes text.new ≡ string_bytes text.old ++ row_line row.now) }
 {
-    push_word(alloc, text, row.seen.as_slice())?;
+    push_elements(alloc, text, row.seen.as_slice())?;
     let (first, second) = (row.first, row.second);
     write!(text, " {first} {second}\n")?;
     Ok(())

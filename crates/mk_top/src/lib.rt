@@ -4,24 +4,17 @@
 #![tactic(auto)]
 
 mod bundle;
-mod command;
 mod counts;
-mod elements;
 mod fault;
-mod numbers;
 mod outputs;
 mod reading;
 mod reports;
 mod runs;
 mod source;
-mod status;
 mod top;
 mod trials;
 
-pub use fault::{CheckFault, Fault, InputFault, SourceFault};
+pub use fault::Fault;
 pub use mk_gen::gen_text;
-pub use status::{Status, code_of};
+pub use mk_words::{Status, code_of};
 pub use top::mask_main;
-
-#[cfg(test)]
-mod tests;

@@ -1,15 +1,16 @@
 //! The lines of a code's outputs, by the entries of a trace.
 
-ghost use Rattle.std.specs.Prelude.{◌≡◌, ◌++◌, ◌<◌, ◌/◌, OnOk, IfOk, length, string_bytes};
+ghost use Rattle.std.specs.Prelude.{◌≡◌, ◌++◌, ◌∷◌, [], ◌<◌, ◌/◌, OnOk, IfOk, length, string_bytes};
 ghost use Rattle.mk_field.specs.Sharing.{field_sum};
 ghost use Rattle.mk_code.specs.Counting.{AllBelow};
 ghost use Rattle.mk_code.specs.Listing.{trace_len};
 ghost use Rattle.mk_code.specs.Private.{observation};
-ghost use Rattle.mk_top.specs.Words.{elements_word};
+ghost use Rattle.mk_words.specs.Words.{elements_word};
 ghost use Rattle.mk_top.specs.Runs.{output_line, output_lines, run_text};
 
 use mk_base::{Bytes, Items, Memory};
 use mk_code::Code;
+use mk_words::push_elements;
 use std::alloc::Global;
 
 /// The sum of some elements.
@@ -23,27 +24,14 @@ fn sum_of(elements: &[u8]) -> u8
     sum
 }
 
-/// Appends the word of some elements.
-pub(crate) fn push_word(alloc: Global, text: &mut String, elements: &[u8]) -> Result<(), Memory>
-    ensures { OnOk result (string_bytes text.new ≡ string_bytes text.old ++ elements_word elements.now) }
-{
-    if elements.is_empty() {
-        text.push_str("-")?;
-        return Ok(());
-    }
-    let digits = hex::encode(alloc, elements)?;
-    text.push_str(digits.as_str())?;
-    Ok(())
-}
-
 /// Appends the line of an output.
 fn push_output(alloc: Global, text: &mut String, number: usize, shares: &[u8]) -> Result<(), Memory>
     ensures { OnOk result (string_bytes text.new ≡ string_bytes text.old ++ output_line number shares.now) }
 {
     write!(text, "{number} ")?;
-    push_word(alloc, text, shares)?;
+    push_elements(alloc, text, shares)?;
     text.push_str(" ")?;
-    push_word(alloc, text, &[sum_of(shares)])?;
+    push_elements(alloc, text, &[sum_of(shares)])?;
     text.push_str("\n")?;
     Ok(())
 }
@@ -84,6 +72,16 @@ pub(crate) fn outputs_text(alloc: Global, code: &Code, entries: &[u8]) -> Result
     let mut text = String::new(alloc);
     let count = usize::from(code.order()) + 1;
     push_outputs(alloc, &mut text, count, shares.as_slice())?;
+    bytes_of(text)
+}
+
+/// The word of these elements, with a line feed.
+pub(crate) fn elements_line(alloc: Global, elements: &[u8]) -> Result<Bytes, Memory>
+    ensures { IfOk result (λ line. line ≡ elements_word elements.now ++ 10 ∷ []) }
+{
+    let mut text = String::new(alloc);
+    push_elements(alloc, &mut text, elements)?;
+    text.push_str("\n")?;
     bytes_of(text)
 }
 

@@ -1,7 +1,7 @@
 //! Reports: a bundle read, checked, and then reported on.
 
 ghost use Rattle.std.specs.Prelude.{◌≤◌, Some, IfOk, IfErr, length};
-ghost use Rattle.mk_top.specs.Words.{Report};
+ghost use Rattle.mk_words.specs.Words.{Report};
 ghost use Rattle.mk_top.specs.Answers.{Reports, ReadWhole, limit_of};
 ghost use Rattle.mk_top.specs.Running.{NotMade, NoText};
 

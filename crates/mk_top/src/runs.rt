@@ -4,7 +4,7 @@ ghost use Rattle.std.specs.Prelude.{◌≡◌, ◌⊎◌, ◌≤◌, ◌<◌, �
 ghost use Rattle.mk_code.specs.Private.{masked_trace};
 ghost use Rattle.mk_run.specs.Refusals.{whole_refusal};
 ghost use Rattle.mk_run.specs.declared.refusal.RunRefusal.TheVariants as refusal_;
-ghost use Rattle.mk_top.specs.Words.{Run};
+ghost use Rattle.mk_words.specs.Words.{Run};
 ghost use Rattle.mk_top.specs.Forms.{given_of, IsShort};
 ghost use Rattle.mk_top.specs.Runs.{Runs, tape_of, run_text};
 ghost use Rattle.mk_top.specs.Answers.{ReadWhole, limit_of};

@@ -3,13 +3,13 @@
 ghost use Rattle.std.specs.Prelude.{◌≤◌, ◌<◌, ◌^◌, Some, IfOk, IfErr, length};
 ghost use Rattle.mk_base.specs.declared.TheConstants.{TOP_ORDER};
 ghost use Rattle.mk_types.specs.Elements.{maps_of};
-ghost use Rattle.mk_top.specs.Words.{Compile, Eval};
+ghost use Rattle.mk_words.specs.Words.{Compile, Eval};
 ghost use Rattle.mk_top.specs.Answers.{Compiles, Evaluates, ReadWhole, limit_of};
 ghost use Rattle.mk_top.specs.Sources.{IsSourceOf};
 ghost use Rattle.mk_top.specs.Running.{NotMade, NotTyped, NoText};
 
-use crate::elements::elements_line;
 use crate::fault::Fault;
+use crate::outputs::elements_line;
 use crate::reading::whole_text;
 use mk_base::{Bytes, Source};
 use mk_bundle::to_text;

@@ -2,8 +2,9 @@ ghost use Rattle.std.specs.Prelude.{◌≡◌, ◌≢◌, ◌≤◌, ◌<◌, �
 ghost use Rattle.mk_base.specs.Outside.{Rose};
 ghost use Rattle.mk_base.specs.declared.TheConstants.{TOP_ORDER};
 ghost use Rattle.mk_top.specs.declared.fault.Fault.{Fault};
-ghost use Rattle.mk_top.specs.Words.{Command, Compile, Check, Eval, Run, Count, Report, Gen, Trial, GivenTape, Asks, IsForm, IsNoForm};
-ghost use Rattle.mk_top.specs.Forms.{AreElements, AreProbes, IsTapeForm, IsShort, OfElements, OfRun, OfCount, given_of};
+ghost use Rattle.mk_words.specs.Words.{Command, Compile, Check, Eval, Run, Count, Report, Gen, Trial, GivenTape, Asks, IsForm, IsNoForm};
+ghost use Rattle.mk_words.specs.Forms.{AreElements, AreProbes, IsTapeForm};
+ghost use Rattle.mk_top.specs.Forms.{IsShort, OfElements, OfRun, OfCount, given_of};
 ghost use Rattle.mk_top.specs.Faults.{status_of, fault_line};
 ghost use Rattle.mk_top.specs.Answers.{Compiles, Checks, Evaluates, Reports, Generates, Tries, Makes, Decides, Because, Reads, input_of, TakesWhole, TakesSome, Tells, answer_status, IsOrMemory, ReadsToEnd, ReadWhole, limit_of, WritesNothing, IsAnswerOf};
 ghost use Rattle.mk_top.specs.Runs.{Runs};
@@ -11,17 +12,14 @@ ghost use Rattle.mk_top.specs.Counts.{Counts};
 ghost use Rattle.mk_top.specs.Running.{Finished, StoppedAt, Stopped, ReadsOrLeaves};
 
 use crate::bundle::check_bundle;
-use crate::command::{Form, TapeForm, form_asked};
 use crate::counts::count_bundle;
-use crate::elements::elements_of;
 use crate::fault::Fault;
-use crate::numbers::probes_of;
 use crate::reports::report_bundle;
 use crate::runs::{WholeTape, run_bundle};
 use crate::source::{compiled_text, evaluated_text};
-use crate::status::Status;
 use crate::trials::{generated_text, trial_text};
 use mk_base::{Sink, Source, Words, write_all};
+use mk_words::{Form, Status, TapeForm, elements_of, form_asked, probes_of};
 use std::alloc::Global;
 
 /// Writes a text whole to the output.

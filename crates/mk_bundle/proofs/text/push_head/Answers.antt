@@ -1,7 +1,7 @@
 -- The five lines, one after the other.
 use Rattle.std.proofs.Common.{◌≡◌, ◌++◌, codes, string_bytes}
 use Rattle.std.proofs.lemmas.Result.{on_ok_weaker}
-use Rattle.mk_bundle.specs.Words.{line}
+use Rattle.mk_lines.specs.Words.{line}
 use Rattle.mk_bundle.specs.Text.{field_line, number_line}
 use Rattle.mk_bundle.proofs.Appended.{five_appended}
 use Rattle.mk_bundle.proofs.text.push_head.Goals as goal

@@ -1,7 +1,8 @@
 -- What was appended fits, so the code and the certificate are a pair.
 use Rattle.std.proofs.Common.{subst, ◌∙◌}
 use Rattle.std.specs.List.{AllByRecursion}
-use Rattle.mk_bundle.specs.Pairs.{MapFits, OpFits, OperandFits, IsPair}
+use Rattle.mk_lines.specs.Words.{OperandFits}
+use Rattle.mk_bundle.specs.Pairs.{MapFits, OpFits, IsPair}
 use Rattle.mk_bundle.proofs.Appended.{if_ok_always}
 use Rattle.mk_bundle.proofs.text.to_text.Goals as goal
 

@@ -1,6 +1,6 @@
 -- The bundle that was read is the one that was given.
 use Rattle.std.proofs.Common.{ℕ, List, Some, IfOk, IfErr, subst}
-use Rattle.mk_top.specs.Words.{Count}
+use Rattle.mk_words.specs.Words.{Count}
 use Rattle.mk_top.specs.Counts.{Counts}
 use Rattle.mk_top.specs.Running.{NotMade}
 use Rattle.mk_top.proofs.Given.{no_text-given}

@@ -1,7 +1,7 @@
 -- Why the tapes are not counted is why nothing is made of the bundle.
 use Rattle.std.proofs.Common.{List, ℕ, sym, subst, Result, IfErr}
 use Rattle.std.proofs.lemmas.Result.{err_from_is_err_and}
-use Rattle.mk_top.specs.Words.{Count}
+use Rattle.mk_words.specs.Words.{Count}
 use Rattle.mk_top.specs.declared.fault.Fault.{Fault}
 use Rattle.mk_top.specs.Running.{NotMade}
 use Rattle.mk_top.proofs.Counted.{count_not_made}

@@ -1,6 +1,6 @@
 -- The bundle that was read is the one that was given.
 use Rattle.std.proofs.Common.{ℕ, List, Some, IfOk, IfErr, subst}
-use Rattle.mk_top.specs.Words.{Run}
+use Rattle.mk_words.specs.Words.{Run}
 use Rattle.mk_top.specs.Forms.{given_of}
 use Rattle.mk_top.specs.Runs.{Runs}
 use Rattle.mk_top.specs.Running.{NotMade}

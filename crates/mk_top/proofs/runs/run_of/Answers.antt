@@ -1,7 +1,7 @@
 -- Why the run is refused is why nothing is made of the bundle.
 use Rattle.std.proofs.Common.{List, ℕ, sym, subst, Result, IfErr}
 use Rattle.std.proofs.lemmas.Result.{err_from_is_err_and}
-use Rattle.mk_top.specs.Words.{Run}
+use Rattle.mk_words.specs.Words.{Run}
 use Rattle.mk_top.specs.Forms.{given_of}
 use Rattle.mk_top.specs.declared.fault.Fault.{Fault}
 use Rattle.mk_top.specs.Running.{NotMade}

@@ -1,6 +1,6 @@
 -- The source that was read is the one that was given.
 use Rattle.std.proofs.Common.{ℕ, List, Some, IfOk, IfErr, subst}
-use Rattle.mk_top.specs.Words.{Compile}
+use Rattle.mk_words.specs.Words.{Compile}
 use Rattle.mk_top.specs.Answers.{Compiles}
 use Rattle.mk_top.specs.Running.{NotMade}
 use Rattle.mk_top.proofs.Given.{compiled-given, no_text-given}

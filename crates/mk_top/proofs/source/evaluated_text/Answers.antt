@@ -1,6 +1,6 @@
 -- The source that was read is the one that was given.
 use Rattle.std.proofs.Common.{ℕ, List, Some, IfOk, IfErr, subst}
-use Rattle.mk_top.specs.Words.{Eval}
+use Rattle.mk_words.specs.Words.{Eval}
 use Rattle.mk_top.specs.Answers.{Evaluates}
 use Rattle.mk_top.specs.Running.{NotMade}
 use Rattle.mk_top.proofs.Given.{evaluated-given, no_text-given}

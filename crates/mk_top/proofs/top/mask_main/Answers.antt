@@ -1,8 +1,8 @@
 -- Each way that a run ends has one answer.
 use Rattle.std.proofs.Common.{IfSome, sym, ◌∙◌, subst}
 use Rattle.mk_bundle.proofs.Naming.{differ}
-use Rattle.mk_top.specs.Words.{Compile, Eval, Run, Count, Report, Gen, Trial}
-use Rattle.mk_top.specs.declared.status.Status.{Status}
+use Rattle.mk_words.specs.Words.{Compile, Eval, Run, Count, Report, Gen, Trial}
+use Rattle.mk_words.specs.declared.status.Status.{Status}
 use Rattle.mk_top.specs.Answers.{Decides, IsOrMemory, answer_status, input_of, IsAnswerOf}
 use Rattle.mk_top.proofs.Ends.{finished-at, stopped-at, stopped-cut, stopped-because, stopped-decided, stopped-answer, finished-decided, left-unread}
 use Rattle.mk_top.proofs.top.mask_main.Goals as goal

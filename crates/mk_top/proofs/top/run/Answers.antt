@@ -1,8 +1,8 @@
 -- The command that stopped is the one that was asked for.
 use Rattle.std.proofs.Common.{refl, subst}
-use Rattle.mk_top.specs.Words.{Compile, Check, Report, Gen, Trial}
-use Rattle.mk_top.specs.Forms.{AsksSo}
-use Rattle.mk_top.specs.declared.command.Form.TheVariants as form
+use Rattle.mk_words.specs.Words.{Compile, Check, Report, Gen, Trial}
+use Rattle.mk_words.specs.Forms.{AsksSo}
+use Rattle.mk_words.specs.declared.command.Form.TheVariants as form
 use Rattle.mk_top.proofs.Ends.{finished-asked, stopped-asked, finished-evaluated, stopped-evaluated, finished-run, stopped-run, finished-count, stopped-count, asked-leaves}
 use Rattle.mk_top.proofs.top.run.Goals as goal
 

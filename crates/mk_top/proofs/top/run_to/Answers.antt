@@ -1,6 +1,6 @@
 -- A bundle that was run, and its lines put.
 use Rattle.std.proofs.Common.{ℕ, List, OnOk, IfErr, subst}
-use Rattle.mk_top.specs.Words.{Run}
+use Rattle.mk_words.specs.Words.{Run}
 use Rattle.mk_top.specs.Forms.{given_of}
 use Rattle.mk_top.specs.Answers.{TakesWhole, TakesSome}
 use Rattle.mk_top.proofs.Ends.{put-finished, put-stopped}

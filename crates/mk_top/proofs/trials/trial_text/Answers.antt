@@ -2,7 +2,7 @@
 use Rattle.std.proofs.Common.{◌≤◌, List, [], ℕ, IfErr, Result, length, sym, subst, ◌∙◌}
 use Rattle.std.proofs.lemmas.Result.{err_from_is_err_and}
 use Rattle.mk_gen.specs.Generated.{generated}
-use Rattle.mk_top.specs.Words.{Trial}
+use Rattle.mk_words.specs.Words.{Trial}
 use Rattle.mk_top.specs.declared.fault.Fault.{Fault}
 use Rattle.mk_top.specs.Sources.{IsSourceOf}
 use Rattle.mk_top.specs.Running.{NotMade, NotTyped}
