@@ -2,7 +2,7 @@
 use Rattle.std.specs.Prelude.{◌≡◌, ◌<◌, ◌^◌, ℕ, List, [], ◌∷◌, length, codes, decimal}
 use Rattle.mk_words.specs.declared.command.Form.{Form}
 use Rattle.mk_words.specs.declared.command.Form.TheVariants as form
-use Rattle.mk_words.specs.Words.{Command, Compile, Check, Eval, Run, Count, Report, Gen, Trial, GivenTape, Seed, Tape, SaysElements, SaysSeed, SaysProbes, Asks}
+use Rattle.mk_words.specs.Words.{Compile, Check, Report, Gen, Trial, SaysElements, SaysSeed, SaysProbes, Asks}
 use Rattle.mk_words.specs.declared.command.TapeForm.{TapeForm}
 use Rattle.mk_words.specs.declared.command.TapeForm.TheVariants as tape_
 
