@@ -34,11 +34,11 @@ before-later marks i (suc d) =
     omega (arith, before-later marks i d, before-next marks (i + d), ap (blocks_before marks) same)
 
 -- the blocks of one value
-refreshes-long : (marks : Marks) (i : ℕ) (op : Op) → length (refresh_at marks i 0 op ++ refresh_at marks i 1 op) ≡ one (marks i 0) + one (marks i 1)
+pub refreshes-long : (marks : Marks) (i : ℕ) (op : Op) → length (refresh_at marks i 0 op ++ refresh_at marks i 1 op) ≡ one (marks i 0) + one (marks i 1)
 refreshes-long marks i op =
     omega (arith, length-append (refresh_at marks i 0 op) (refresh_at marks i 1 op), refresh-long marks i 0 op, refresh-long marks i 1 op)
 
-of-long : (marks : Marks) (i : ℕ) (op : Op) → length (blocks_of marks i op) ≡ one (marks i 0) + one (marks i 1) + 1
+pub of-long : (marks : Marks) (i : ℕ) (op : Op) → length (blocks_of marks i op) ≡ one (marks i 0) + one (marks i 1) + 1
 of-long marks i op =
     omega (arith, length-append (refresh_at marks i 0 op ++ refresh_at marks i 1 op) (with_operands (refreshed marks i) (renamed marks) op ∷ []), refreshes-long marks i op)
 
@@ -102,7 +102,7 @@ own-there marks values i op there =
     all-there marks values i op (length rs) own (own_block marks i) there (slice_get-last rs own) (omega (arith, refreshes-long marks i op))
 
 -- the refresh for a marked use
-refresh-is : (marks : Marks) (i k : ℕ) (op : Op) → marks i k ≡ true
+pub refresh-is : (marks : Marks) (i k : ℕ) (op : Op) → marks i k ≡ true
     → refresh_at marks i k op ≡ Refresh (renamed marks (slice_index_or (shared_operands op) k (Secret 0))) ∷ []
 refresh-is marks i k op on =
     cond-true (marks i k) (Refresh (renamed marks (slice_index_or (shared_operands op) k (Secret 0))) ∷ []) [] on

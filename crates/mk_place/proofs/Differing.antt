@@ -23,7 +23,7 @@ places shared k (v ∷ vs) = shared k v ∷ places shared (suc k) vs
 
 module _ (shared : ℕ → Operand → Operand) (public : Operand → Operand) where
   -- other operands leave the operator
-  operator-laid : (op : Op) → operator (with_operands shared public op) ≡ operator op
+  pub operator-laid : (op : Op) → operator (with_operands shared public op) ≡ operator op
   operator-laid (Const value) = refl
   operator-laid (PubAdd left right) = refl
   operator-laid (PubMul left right) = refl
@@ -56,7 +56,7 @@ module _ (shared : ℕ → Operand → Operand) (public : Operand → Operand) w
   shared-laid (Refresh arg) = refl
 
   -- the public ones are the images
-  public-laid : (op : Op) → public_operands (with_operands shared public op) ≡ map public (public_operands op)
+  pub public-laid : (op : Op) → public_operands (with_operands shared public op) ≡ map public (public_operands op)
   public-laid (Const value) = refl
   public-laid (PubAdd left right) = refl
   public-laid (PubMul left right) = refl
@@ -78,7 +78,7 @@ block_number (Public k) = 0
 block_number (Block k) = k
 
 -- two blocks are one where they are equal
-block-once : (m n : ℕ) → Block m ≡ Block n → m ≡ n
+pub block-once : (m n : ℕ) → Block m ≡ Block n → m ≡ n
 unfolding block_number
 block-once m n same = ap block_number same
 
@@ -96,17 +96,17 @@ module _ (marks : Marks) where
   renamed-once (Block k) (Block j) same = ap (λ (n : ℕ). Block n) (own-once marks k j (block-once (own_block marks k) (own_block marks j) same))
 
   -- none of them is that of a refresh
-  renamed-fresh : (v : Operand) (j k : ℕ) → k < 2 → marks j k ≡ true → renamed marks v ≡ Block (refresh_block marks j k) → ⊥
+  pub renamed-fresh : (v : Operand) (j k : ℕ) → k < 2 → marks j k ≡ true → renamed marks v ≡ Block (refresh_block marks j k) → ⊥
   renamed-fresh (Secret n) j k few on same = absurd (cc)
   renamed-fresh (Public n) j k few on same = absurd (cc)
   renamed-fresh (Block n) j k few on same = own-no-refresh marks n j k few on (block-once (own_block marks n) (refresh_block marks j k) same)
 
   -- what stands for an operand at a marked use
-  fresh-on : (i k : ℕ) (v : Operand) → marks i k ≡ true → refreshed marks i k v ≡ Block (refresh_block marks i k)
+  pub fresh-on : (i k : ℕ) (v : Operand) → marks i k ≡ true → refreshed marks i k v ≡ Block (refresh_block marks i k)
   fresh-on i k v on = cond-true (marks i k) (Block (refresh_block marks i k)) (renamed marks v) on
 
   -- and at another
-  fresh-off : (i k : ℕ) (v : Operand) → marks i k ≡ false → refreshed marks i k v ≡ renamed marks v
+  pub fresh-off : (i k : ℕ) (v : Operand) → marks i k ≡ false → refreshed marks i k v ≡ renamed marks v
   fresh-off i k v off = cond-false (marks i k) (Block (refresh_block marks i k)) (renamed marks v) off
 
   module _ (i j : ℕ) where

@@ -188,7 +188,7 @@ module _ (marks : Marks) (code : Listing) (values : List Op) where
       (each-at (IsSharedThere code (take i values)) (shared_operands op) k v (wired-operands code (take i values) op wired).0 at)
 
   -- each block is wired
-  each-wired : AreAtUses marks values → ((i : ℕ) (op : Op) → slice_get values i ≡ Some op → IsWired code (take i values) op)
+  pub each-wired : AreAtUses marks values → ((i : ℕ) (op : Op) → slice_get values i ≡ Some op → IsWired code (take i values) op)
       → (j : ℕ) (x : Op) → slice_get blocks j ≡ Some x → IsWired code (take j blocks) x
   each-wired used wired j x there = elim (each-block marks values j (slice_get_within blocks j x there)) [
     | inl own ↦

@@ -33,14 +33,14 @@ image-at f (y ∷ xs) zero x there = ap (λ (z : _). Some (f z)) (same_Some y x 
 image-at f (y ∷ xs) (suc k) x there = image-at f xs k x there
 
 -- an image is that of an element
-image-from : {X Y : Type 0} (f : X → Y) (xs : List X) (k : ℕ) (y : Y) → slice_get (map f xs) k ≡ Some y
+pub image-from : {X Y : Type 0} (f : X → Y) (xs : List X) (k : ℕ) (y : Y) → slice_get (map f xs) k ≡ Some y
     → (x : X) × (slice_get xs k ≡ Some x) × (f x ≡ y)
 image-from f [] k y there = absurd (cc)
 image-from f (x ∷ xs) zero y there = (x, refl, same_Some (f x) y there)
 image-from f (x ∷ xs) (suc k) y there = image-from f xs k y there
 
 -- what holds of each operand holds of the one at a place
-each-at : (P : Operand → Type 0) (vs : List Operand) (k : ℕ) (v : Operand) → Each P vs → slice_get vs k ≡ Some v → P v
+pub each-at : (P : Operand → Type 0) (vs : List Operand) (k : ℕ) (v : Operand) → Each P vs → slice_get vs k ≡ Some v → P v
 unfolding Each
 each-at P [] k v each there = absurd (cc)
 each-at P (x ∷ vs) zero v each there = subst P (same_Some x v there) each.0
@@ -62,7 +62,7 @@ refresh-single f (Refresh arg) x is there = absurd (cc)
 refresh-single f _ x is there = absurd is
 
 -- what stands for the operand at a place
-place-of : (f : ℕ → Operand → Operand) (n : ℕ) (vs : List Operand) (k : ℕ) (v : Operand) → slice_get vs k ≡ Some v
+pub place-of : (f : ℕ → Operand → Operand) (n : ℕ) (vs : List Operand) (k : ℕ) (v : Operand) → slice_get vs k ≡ Some v
     → slice_get (places f n vs) k ≡ Some (f (n + k) v)
 unfolding places
 place-of f n [] k v there = absurd (cc)
@@ -74,7 +74,7 @@ place-of f n (x ∷ vs) (suc k) v there =
     place-of f (suc n) vs k v there ∙ ap (λ (m : ℕ). Some (f m v)) e
 
 -- and nothing else does
-place-in : (f : ℕ → Operand → Operand) (n : ℕ) (vs : List Operand) (k : ℕ) (x : Operand) → slice_get (places f n vs) k ≡ Some x
+pub place-in : (f : ℕ → Operand → Operand) (n : ℕ) (vs : List Operand) (k : ℕ) (x : Operand) → slice_get (places f n vs) k ≡ Some x
     → (v : Operand) × (slice_get vs k ≡ Some v) × (f (n + k) v ≡ x)
 unfolding places
 place-in f n [] k x there = absurd (cc)

@@ -17,3 +17,5 @@ mod Hops
 mod Reaching
 mod Holding
 mod Alike
+mod TakingOut
+mod Serving

@@ -1,13 +1,18 @@
--- Worked values: the product of a secret with itself, and the S-box of FIPS 197 by the power 254.
-use Rattle.std.proofs.Common.{◌≡◌, true, false, ◌&&◌, ◌||◌, nat_eq, [], ◌∷◌, refl}
+-- Worked values: the product of a secret with itself, a sum that is multiplied by both of its operands, and the S-box of
+-- FIPS 197 by the power 254.
+use Rattle.std.proofs.Common.{◌≡◌, ℕ, zero, suc, true, false, ◌&&◌, ◌||◌, nat_eq, ◌<◌, List, [], ◌∷◌, slice_index_or, refl, inl, inr, arith}
 use Rattle.mk_field.specs.declared.field.FieldId.TheVariants.{Gf2, Gf256}
-use Rattle.mk_ssa.specs.declared.Op.TheVariants.{Const, AddPub, Sq, Map, Mul, Refresh}
+use Rattle.mk_ssa.specs.declared.Op.{Op}
+use Rattle.mk_ssa.specs.declared.Op.TheVariants.{Const, Add, AddPub, Sq, Map, Mul, Refresh}
 use Rattle.mk_ssa.specs.declared.Operand.TheVariants.{Secret, Block}
 use Rattle.mk_ssa.specs.Kinds.{Strong}
 use Rattle.mk_ssa.specs.Values.{Values}
+use Rattle.mk_rules.specs.Claimed.{Claimed}
 use Rattle.mk_place.specs.Uses.{uses, uses_by, uses_from}
 use Rattle.mk_place.specs.Layout.{Marks, laid_out, blocks_before, blocks_from}
 use Rattle.mk_place.specs.Needs.{needs_by, marks_by, joined}
+use Rattle.mk_place.specs.TakenOut.{without_refreshes}
+use Rattle.mk_place.specs.Refreshes.{HasOperand, IsUsedOnce, StandsBefore}
 use Rattle.mk_place.proofs.Taking.{use_of}
 
 -- the product of a secret with itself
@@ -25,10 +30,93 @@ unfolding uses_by uses_from needs_by marks_by joined
 square-marks = (refl, refl)
 
 -- its certificate
-pub square-laid : laid_out (marks_by 1 (uses square)) square
-    ≡ record { blocks = Refresh (Secret 0) ∷ Mul (Block 0) (Secret 0) ∷ []; claims = Block 1 ∷ [] }
+abbrev square_cert : Claimed
+square_cert = record { blocks = Refresh (Secret 0) ∷ Mul (Block 0) (Secret 0) ∷ []; claims = Block 1 ∷ [] }
+
+pub square-laid : laid_out (marks_by 1 (uses square)) square ≡ square_cert
 unfolding uses_by uses_from needs_by marks_by joined blocks_before blocks_from
 square-laid = refl
+
+-- without the refresh it is the product again
+pub square-without : without_refreshes square_cert ≡ record { blocks = Mul (Secret 0) (Secret 0) ∷ []; claims = Block 0 ∷ [] }
+square-without = refl
+
+-- the refresh is operand 0 of the product, and nothing else
+square-alone : (b k : ℕ) → HasOperand square_cert.blocks b k 0 → (b ≡ 1) × (k ≡ 0)
+square-alone zero zero has = absurd (cc)
+square-alone zero (suc k) has = absurd (cc)
+square-alone (suc zero) zero has = (refl, refl)
+square-alone (suc zero) (suc zero) has = absurd (cc)
+square-alone (suc zero) (suc (suc k)) has = absurd (cc)
+square-alone (suc (suc b)) k has = absurd has
+
+-- it is not claimed
+square-unclaimed : (k : ℕ) → k < 1 → slice_index_or (Block 1 ∷ []) k (Block 0) ≡ Block 0 → ⊥
+square-unclaimed zero below is = absurd (cc)
+square-unclaimed (suc k) below is = omega (arith, below)
+
+pub square-once : IsUsedOnce square_cert 0
+square-once = record {
+  user = 1;
+  place = 0;
+  op = Mul (Block 0) (Secret 0);
+  there = refl;
+  shared = refl;
+  linear_or_product = inr refl;
+  alone = square-alone;
+  unclaimed = λ held. square-unclaimed held.0 held.1 held.2;
+}
+
+-- it stands directly before the product
+pub square-stands : StandsBefore square_cert.blocks 0 1 0
+square-stands = inl refl
+
+-- a refresh that is both operands of a product is used twice
+pub double-once : IsUsedOnce (record { blocks = Refresh (Secret 0) ∷ Mul (Block 0) (Block 0) ∷ []; claims = Block 1 ∷ [] }) 0 → ⊥
+double-once once = omega (arith, once.alone 1 0 refl, once.alone 1 1 refl)
+
+-- a sum that is multiplied by both of its operands
+abbrev sums : Values
+sums = record {
+  field = Gf2;
+  secrets = 2;
+  publics = 0;
+  maps = [];
+  values = Add (Secret 0) (Secret 1) ∷ Mul (Block 0) (Secret 0) ∷ Mul (Block 0) (Secret 1) ∷ [];
+  outs = Block 1 ∷ Block 2 ∷ [];
+}
+
+-- both uses by the sum are refreshed
+abbrev sums_cert : Claimed
+sums_cert = record {
+  blocks = Refresh (Secret 0) ∷ Refresh (Secret 1) ∷ Add (Block 0) (Block 1) ∷ Mul (Block 2) (Secret 0) ∷ Mul (Block 2) (Secret 1) ∷ [];
+  claims = Block 3 ∷ Block 4 ∷ [];
+}
+
+pub sums-laid : laid_out (marks_by 2 (uses sums)) sums ≡ sums_cert
+unfolding uses_by uses_from needs_by marks_by joined blocks_before blocks_from
+sums-laid = refl
+
+-- without them it is the sum and the products again
+pub sums-without : without_refreshes sums_cert ≡ record { blocks = sums.values; claims = sums.outs }
+sums-without = refl
+
+-- that for operand 0 stands before that for operand 1, and this before the sum
+pub sums-stand : StandsBefore sums_cert.blocks 0 2 0 × StandsBefore sums_cert.blocks 1 2 1
+sums-stand = (inr (refl, refl, tt, refl), inl refl)
+
+-- the other way round they don't
+abbrev swapped : List Op
+swapped = Refresh (Secret 1) ∷ Refresh (Secret 0) ∷ Add (Block 1) (Block 0) ∷ []
+
+pub swapped-stand : HasOperand swapped 2 1 0 × (StandsBefore swapped 0 2 1 → ⊥)
+swapped-stand = (
+  refl,
+  λ stands. elim stands [
+    | inl next ↦ omega (arith, next)
+    | inr last ↦ omega (arith, last.0)
+  ],
+)
 
 -- the S-box of FIPS 197, by four products
 abbrev sbox : Values

@@ -5,3 +5,5 @@ pub mod Needs
 pub mod Marking
 pub mod Laying
 pub mod Different
+pub mod TakenOut
+pub mod Refreshes
