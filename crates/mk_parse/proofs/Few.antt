@@ -1,7 +1,8 @@
 -- A text of at most 1,048,576 bytes declares at most 32,768 maps of eight images.
-use Rattle.std.proofs.Common.{◌≡◌, ℕ, ◌+◌, ◌*◌, ◌≤◌, List, [], ◌∷◌, ◌++◌, length, refl, ap, arith, inl, inr, length-append}
+use Rattle.std.proofs.Common.{◌≡◌, ℕ, ◌+◌, ◌*◌, ◌≤◌, ◌==◌, Bool, true, false, cond, List, [], ◌∷◌, ◌++◌, length, count_by, refl, ap, arith, inl, inr, length-append}
+use Rattle.std.proofs.lemmas.Bool.Decides.{Decides-eqb}
+use Rattle.std.proofs.lemmas.List.Sums.{sum_by-cons}
 use Rattle.std.specs.Prelude.{codes}
-use Rattle.std.specs.List.{AllByRecursion}
 use Rattle.mk_base.specs.declared.Place.{Place}
 use Rattle.mk_ast.specs.declared.tree.Program.{Program}
 use Rattle.mk_ast.specs.declared.tree.Decl.{Decl}
@@ -11,7 +12,7 @@ use Rattle.mk_ast.specs.Tokens.{Token, BeginsWith}
 use Rattle.mk_ast.specs.Phrases.{Phrase, made, after, many, separated}
 use Rattle.mk_ast.specs.Grammar.{element, declaration, map_declaration}
 use Rattle.mk_ast.specs.Spells.{Spells}
-use Rattle.mk_parse.specs.Parsed.{images_with, maps_of, FewMaps}
+use Rattle.mk_parse.specs.Parsed.{images_with, maps_of, has_eight, FewMaps}
 
 -- the bytes of tokens
 bytes : List Token → ℕ
@@ -60,10 +61,18 @@ counted : List (List ℕ) → ℕ
 counted [] = 0
 counted (images ∷ others) = length images + counted others
 
-counted_eight : (maps : List (List ℕ)) → AllByRecursion (λ images. length images ≡ 8) maps → counted maps ≡ 8 * length maps
+-- a map that is counted has eight images
+counts_eight : (n : ℕ) (b : Bool) → n == 8 ≡ b → 8 * cond b 1 0 ≤ n
+counts_eight n true e = omega (arith, (Decides-eqb n 8).0 e)
+counts_eight n false e = omega arith
+
+-- there are at least eight times as many images as maps that are counted
+counted_eight : (maps : List (List ℕ)) → 8 * count_by has_eight maps ≤ counted maps
 unfolding counted
-counted_eight [] h = refl
-counted_eight (images ∷ others) h = omega (arith, h.0, counted_eight others h.1)
+counted_eight [] = omega arith
+counted_eight (images ∷ others) =
+    let more = sum_by-cons (λ images. cond (has_eight images) 1 0) images others in
+    omega (arith, more, counts_eight (length images) (has_eight images) refl, counted_eight others)
 
 -- the images of one declaration
 declared : What → ℕ
@@ -96,8 +105,8 @@ declarations_bytes ts (d ∷ ds) h =
 
 -- each map of eight images takes 32 bytes for these alone
 pub few_maps : (p : Program) (text : List ℕ) → Spells p text → length text ≤ 1048576 → FewMaps p
-few_maps p text (tokens, (rest, begins, last), (x, (front, back, parts, head, (decls, body, split, declared_so, stated)), is)) short all =
+few_maps p text (tokens, (rest, begins, last), (x, (front, back, parts, head, (decls, body, split, declared_so, stated)), is)) short =
     let some = declarations_bytes decls x.1.0 declared_so in
-    let eight = counted_eight (maps_of p.decls) all in
+    let eight = counted_eight (maps_of p.decls) in
     let same : counted (maps_of p.decls) ≡ counted (maps_of x.1.0) = ap (λ (q : Program). counted (maps_of q.decls)) is in
     omega (arith, some, eight, same, bytes_fit text text tokens rest begins, ap bytes parts, bytes_append front back, ap bytes split, bytes_append decls body, short)

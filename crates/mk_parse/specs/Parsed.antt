@@ -1,6 +1,5 @@
 -- What `parse` answers.
-use Rattle.std.specs.Prelude.{◌≡◌, ℕ, ◌≤◌, List, [], ◌∷◌, length}
-use Rattle.std.specs.List.{AllByRecursion}
+use Rattle.std.specs.Prelude.{◌≡◌, ℕ, ◌≤◌, ◌==◌, Bool, List, [], ◌∷◌, length, count_by, refl}
 use Rattle.mk_ast.specs.declared.tree.Program.{Program}
 use Rattle.mk_ast.specs.declared.tree.Decl.{Decl}
 use Rattle.mk_ast.specs.declared.tree.What.{What}
@@ -31,6 +30,14 @@ abbrev pub maps_of : List Decl → List (List ℕ)
 maps_of [] = []
 maps_of (d ∷ ds) = images_with d.what (maps_of ds)
 
--- where each map has eight images, there are at most 32,768 of them
+-- whether a map has eight images
+abbrev pub has_eight : List ℕ → Bool
+has_eight images = length images == 8
+
+-- of a map of seven images and one of eight, one has eight
+pub count-7-8 : count_by has_eight ((0 ∷ 1 ∷ 2 ∷ 3 ∷ 4 ∷ 5 ∷ 6 ∷ []) ∷ (0 ∷ 1 ∷ 2 ∷ 3 ∷ 4 ∷ 5 ∷ 6 ∷ 7 ∷ []) ∷ []) ≡ 1
+count-7-8 = refl
+
+-- at most 32,768 of the maps have eight images, whatever the others have
 abbrev pub FewMaps : Program → Type 0
-FewMaps p = AllByRecursion (λ images. length images ≡ 8) (maps_of p.decls) → length (maps_of p.decls) ≤ 32768
+FewMaps p = count_by has_eight (maps_of p.decls) ≤ 32768
