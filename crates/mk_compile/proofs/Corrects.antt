@@ -32,7 +32,8 @@ use Rattle.mk_rules.proofs.Laid.{bank-long}
 use Rattle.mk_rules.proofs.BuiltIn.{built_in-given}
 use Rattle.mk_compile.specs.Emitting.{built_banks}
 use Rattle.mk_compile.specs.RightValues.{stands_for}
-use Rattle.mk_compile.specs.Correct.{Correct, IsMadeFor}
+use Rattle.mk_compile.specs.Correct.{Correct}
+use Rattle.mk_compile.specs.MadeFor.{IsMadeFor}
 use Rattle.mk_compile.proofs.Whole.{claims-right}
 
 -- what sharings decode to are elements

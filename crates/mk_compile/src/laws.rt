@@ -5,7 +5,8 @@ ghost use Rattle.mk_code.specs.Listing.{Listing};
 ghost use Rattle.mk_rules.specs.Claimed.{Claimed};
 ghost use Rattle.mk_types.specs.Offences.{IsWellTyped};
 ghost use Rattle.mk_unroll.specs.Causes.{Ends};
-ghost use Rattle.mk_compile.specs.Correct.{Correct, IsMadeFor};
+ghost use Rattle.mk_compile.specs.Correct.{Correct};
+ghost use Rattle.mk_compile.specs.MadeFor.{IsMadeFor};
 ghost use Rattle.mk_compile.specs.RightValues.{RightValues};
 
 /// The law of right values: a code that is made of the blocks of a certificate computes on shares what

@@ -14,14 +14,14 @@ mod texts;
 mod tests {
     use crate::outside::{CALM, Outside};
     use crate::row::{Row, holds_each, words_of};
-    use crate::texts::{REFRESHED, SBOX, SUM, SUM_BUNDLE};
+    use crate::texts::{ONE_TURN, REFRESHED, SBOX, SUM, SUM_BUNDLE};
     use mk_base::{DropSink, Memory, SureSource};
     use mk_top::{Status, mask_main};
     use std::test::*;
 
     #[test]
     fn each_command_is_carried_out(rt: HostRuntime) -> Result<(), Memory> {
-        let rows: [Row; 8] = [
+        let rows: [Row; 9] = [
             Row::done(&["compile", "1"], SUM, SUM_BUNDLE),
             Row::done(&["check"], SUM_BUNDLE, "accepted\n"),
             // FIPS 197, section 5.1.1: the S-box at 53 is ed.
@@ -42,6 +42,7 @@ mod tests {
                 REFRESHED,
                 "s0 input 0 0 1 b1.1\nb0 refresh 3 1 1 b1.0\nb1 mul 9 1 0 -\ntotal 2 12 2\n",
             ),
+            Row::done(&["gen", "1"], "", ONE_TURN),
             Row::done(
                 &["trial", "1", "1"],
                 "",
@@ -82,7 +83,10 @@ mod tests {
             reads: &[2],
             ..CALM
         };
-        let read = [Row::refused(&["compile", "1"], SUM, Status::ReadFault, "6 read fault\n")];
+        let read = [
+            Row::refused(&["compile", "1"], SUM, Status::ReadFault, "6 read fault\n"),
+            Row::refused(&["check"], SUM_BUNDLE, Status::ReadFault, "6 read fault\n"),
+        ];
         assert!(rt; holds_each(rt.alloc(), &late, &read)?);
         // A failing error output changes no status.
         let untold = Outside {
@@ -104,6 +108,20 @@ mod tests {
             err: "7 write fault\n",
         }];
         assert!(rt; holds_each(rt.alloc(), &cut, &write)?);
+        // The second write of four bytes fails.
+        let short = Outside {
+            piece: 4,
+            writes: &[2],
+            ..CALM
+        };
+        let accepted = [Row {
+            words: &["check"],
+            input: SUM_BUNDLE,
+            status: Status::WriteFault,
+            out: "acce",
+            err: "7 write fault\n",
+        }];
+        assert!(rt; holds_each(rt.alloc(), &short, &accepted)?);
         Ok(())
     }
 

@@ -13,3 +13,7 @@ pub(crate) const SBOX: &str =
 /// The square of a bit as a product with itself, one of the two refreshed.
 pub(crate) const REFRESHED: &str =
     "mask 1\nfield gf2\norder 1\nsecrets 1\npublics 0\nblock refresh s0\nblock mul b0 s0\nclaim b1\ncode\nrnd\nadd 0 2\nadd 1 2\nrnd\nmul 3 1\nadd 5 6\nmul 4 0\nadd 7 8\nmul 3 0\nadd 10 5\nmul 4 1\nadd 12 9\nout 11 13\nend\n";
+
+/// The generator's text with one turn.
+pub(crate) const ONE_TURN: &str =
+    "field gf256;\nmap m = 0x1f, 0x3e, 0x7c, 0xf8, 0xf1, 0xe3, 0xc7, 0x8f;\nsecret x[16];\nlocal secret a;\noutput y[16];\nfor i in 0..1 {\n  a = x[i % 16] + y[5 * i % 16];\n  y[i % 16] = a * m(a) + sq(y[(i + 1) % 16]);\n}\n";

@@ -19,7 +19,7 @@ use Rattle.mk_types.proofs.ExecutionLayers.{evaluated_layers, expr_units_layers,
 use Rattle.mk_unroll.specs.Causes.{Elements, Stops}
 use Rattle.mk_top.specs.declared.fault.Fault.TheVariants as fault
 use Rattle.mk_words.specs.declared.fault.SourceFault.TheVariants as source
-use Rattle.mk_top.specs.Answers.{CompileDecides}
+use Rattle.mk_top.specs.Decided.{CompileDecides}
 
 -- a variable of this class and size, declared at this place
 abbrev variable : Place → Class → Option ℕ → List ℕ → Decl

@@ -31,7 +31,7 @@ use Rattle.mk_top.specs.Sources.{IsNoSource}
 use Rattle.mk_top.specs.Faults.{fault_of_source}
 use Rattle.mk_top.proofs.Tried.{trial-one}
 use Rattle.mk_top.proofs.Causes.{cause-once, cause-outside}
-use Rattle.mk_top.specs.Answers.{refusal_of, PairDecides, BundleDecides, SourceDecides, CompileDecides, EvalDecides, RunDecides, CountDecides, TextDecides, Decides, limit_of}
+use Rattle.mk_top.specs.Decided.{refusal_of, PairDecides, BundleDecides, SourceDecides, CompileDecides, EvalDecides, RunDecides, CountDecides, TextDecides, Decides, limit_of}
 
 -- a refusal tells of one fault
 refusal-one : (a b : CheckFault) → refusal_of a ≡ refusal_of b → a ≡ b

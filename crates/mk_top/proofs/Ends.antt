@@ -14,7 +14,9 @@ use Rattle.mk_words.specs.declared.command.Form.TheVariants as form
 use Rattle.mk_words.specs.declared.command.TapeForm.{TapeForm}
 use Rattle.mk_words.specs.declared.command.TapeForm.TheVariants as tape_
 use Rattle.mk_top.specs.Faults.{status_of, fault_of_eval, fault_of_run, fault_of_count}
-use Rattle.mk_top.specs.Answers.{ReadWhole, Reads, input_of, Makes, Decides, TextDecides, Because, TakesWhole, TakesSome, IsOrMemory, answer_status, limit_of, IsAnswerOf}
+use Rattle.mk_top.specs.Decided.{Decides, TextDecides, limit_of}
+use Rattle.mk_top.specs.Headline.{Makes, TakesWhole, TakesSome}
+use Rattle.mk_top.specs.Because.{ReadWhole, Reads, input_of, Because, IsOrMemory, answer_status, IsAnswerOf}
 use Rattle.mk_top.specs.Running.{Finished, StoppedAt, Stopped, ReadsOrLeaves}
 use Rattle.mk_words.proofs.Asking.{asks-one}
 use Rattle.mk_top.proofs.Deciding.{decides-one}

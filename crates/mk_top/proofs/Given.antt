@@ -16,7 +16,9 @@ use Rattle.mk_unroll.specs.Causes.{Cause}
 use Rattle.mk_place.specs.Different.{AllDifferButRefreshes}
 use Rattle.mk_compile.specs.Compiled.{IsWithin, IsCertified}
 use Rattle.mk_compile.specs.Correct.{Correct}
-use Rattle.mk_top.specs.Answers.{ReadWhole, Compiles, Checks, Evaluates, limit_of, TextDecides, IsAnswerOf}
+use Rattle.mk_top.specs.Decided.{limit_of, TextDecides}
+use Rattle.mk_top.specs.Headline.{CompilesSo, Checks, Evaluates}
+use Rattle.mk_top.specs.Because.{ReadWhole, IsAnswerOf}
 use Rattle.mk_top.specs.Sources.{IsSourceOf}
 use Rattle.mk_eval.specs.declared.refusal.EvalRefusal.{EvalRefusal}
 use Rattle.mk_eval.specs.declared.refusal.EvalRefusal.TheVariants as eval
@@ -38,45 +40,45 @@ use Rattle.mk_top.proofs.Texts.{short-text}
 
 -- the source that was read is the one that was given
 compiles-given : (given after : Option (List ℕ)) (bytes written : List ℕ) (order : ℕ)
-    → IfSome given (λ rest. ReadsAll rest bytes after) → Compiles order (Some bytes) written → Compiles order given written
-compiles-given None after bytes written order read c = record {
-  tree = c.tree;
-  code = c.code;
-  cert = c.cert;
-  source = tt;
-  typed = c.typed;
-  within = c.within;
-  pair = c.pair;
-  bytes = c.bytes;
-  correct = c.correct;
-  maps = c.maps;
-  private = c.private;
-  certified = c.certified;
-  different = c.different;
-  accepted = c.accepted;
-  checks = c.checks;
-}
-compiles-given (Some rest) after bytes written order read c = record {
-  tree = c.tree;
-  code = c.code;
-  cert = c.cert;
-  source = subst (λ (bs : List ℕ). IsSourceOf bs c.tree) read.whole c.source;
-  typed = c.typed;
-  within = c.within;
-  pair = c.pair;
-  bytes = c.bytes;
-  correct = c.correct;
-  maps = c.maps;
-  private = c.private;
-  certified = c.certified;
-  different = c.different;
-  accepted = c.accepted;
-  checks = c.checks;
-}
+    → IfSome given (λ rest. ReadsAll rest bytes after) → CompilesSo order (Some bytes) written → CompilesSo order given written
+compiles-given None after bytes written order read (c, made) = (
+  record {
+    tree = c.tree;
+    code = c.code;
+    cert = c.cert;
+    source = tt;
+    typed = c.typed;
+    within = c.within;
+    pair = c.pair;
+    bytes = c.bytes;
+    correct = c.correct;
+    private = c.private;
+    accepted = c.accepted;
+    checks = c.checks;
+  },
+  made,
+)
+compiles-given (Some rest) after bytes written order read (c, made) = (
+  record {
+    tree = c.tree;
+    code = c.code;
+    cert = c.cert;
+    source = subst (λ (bs : List ℕ). IsSourceOf bs c.tree) read.whole c.source;
+    typed = c.typed;
+    within = c.within;
+    pair = c.pair;
+    bytes = c.bytes;
+    correct = c.correct;
+    private = c.private;
+    accepted = c.accepted;
+    checks = c.checks;
+  },
+  made,
+)
 
 -- the same of an answer
 pub compiled-given : {E : Type 0} (given after : Option (List ℕ)) (bytes : List ℕ) (order : ℕ) (r : Result (List ℕ) E)
-    → IfSome given (λ rest. ReadsAll rest bytes after) → IfOk r (Compiles order (Some bytes)) → IfOk r (Compiles order given)
+    → IfSome given (λ rest. ReadsAll rest bytes after) → IfOk r (CompilesSo order (Some bytes)) → IfOk r (CompilesSo order given)
 compiled-given given after bytes order (Ok written) read compiles = compiles-given given after bytes written order read compiles
 compiled-given given after bytes order (Err e) read compiles = tt
 
@@ -300,21 +302,21 @@ runs-made ps ss tape bytes written code cert pair is taken lines = record {
 -- a source was compiled where its code and certificate are what they promise
 pub compiles-made : (order : ℕ) (bytes written : List ℕ) (tree : Tree) (code : Listing) (cert : Claimed)
     → IsSourceOf bytes tree → IsWithin tree order → Correct tree order code → code.maps ≡ maps_of tree.decls → Private code → IsCertified tree cert → AllDifferButRefreshes cert.blocks → IsAccepted code cert
-    → IsPair code cert → written ≡ text code cert → Compiles order (Some bytes) written
-compiles-made order bytes written tree code cert source within correct maps private certified different accepted pair same = record {
-  tree = tree;
-  code = code;
-  cert = cert;
-  source = source;
-  typed = source.typed;
-  within = within;
-  pair = pair;
-  bytes = same;
-  correct = correct;
-  maps = maps;
-  private = private;
-  certified = certified;
-  different = different;
-  accepted = accepted;
-  checks = (subst (λ (bs : List ℕ). length bs ≤ 268435456) (sym same) (short-text code cert pair), (code, cert, pair, same, accepted));
-}
+    → IsPair code cert → written ≡ text code cert → CompilesSo order (Some bytes) written
+compiles-made order bytes written tree code cert source within correct maps private certified different accepted pair same = (
+  record {
+    tree = tree;
+    code = code;
+    cert = cert;
+    source = source;
+    typed = source.typed;
+    within = within;
+    pair = pair;
+    bytes = same;
+    correct = correct;
+    private = private;
+    accepted = accepted;
+    checks = (subst (λ (bs : List ℕ). length bs ≤ 268435456) (sym same) (short-text code cert pair), (code, cert, pair, same, accepted));
+  },
+  record { certified = certified; different = different; maps = maps },
+)

@@ -1,7 +1,7 @@
 -- What was reported of a text, said of the bytes that the input gave.
 use Rattle.std.proofs.Common.{ℕ, List, Option, Some, None, Result, Ok, Err, IfOk, IfSome, sym, ◌∙◌}
 use Rattle.mk_base.specs.Streams.{ReadsAll}
-use Rattle.mk_top.specs.Answers.{Reports}
+use Rattle.mk_top.specs.Headline.{Reports}
 
 -- the bundle that was read is the one that was given
 reports-given : (given after : Option (List ℕ)) (bytes written : List ℕ)

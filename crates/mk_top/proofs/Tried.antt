@@ -33,7 +33,8 @@ use Rattle.mk_top.specs.declared.fault.Fault.{Fault}
 use Rattle.mk_top.specs.declared.fault.Fault.TheVariants as fault
 use Rattle.mk_words.specs.declared.fault.SourceFault.TheVariants as source
 use Rattle.mk_words.specs.Words.{Trial}
-use Rattle.mk_top.specs.Answers.{Tries, TrialDecides, is_refresh, trial_line}
+use Rattle.mk_top.specs.Decided.{TrialDecides}
+use Rattle.mk_top.specs.Headline.{Tries, is_refresh, trial_line}
 use Rattle.mk_top.specs.Sources.{IsSourceOf}
 use Rattle.mk_top.specs.Faults.{fault_of_source}
 use Rattle.mk_top.specs.Running.{NotMade, NotTyped}
@@ -172,12 +173,10 @@ tries-made turns order written tree code cert is_source within correct maps priv
     pair = pair;
     bytes = refl;
     correct = correct;
-    maps = maps;
     private = private;
-    certified = certified;
-    different = different;
     accepted = accepted;
     checks = (short-text code cert pair, (code, cert, pair, refl, accepted));
   };
+  made = record { certified = certified; different = different; maps = maps };
   bytes = line;
 }

@@ -3,5 +3,7 @@ pub mod Forms
 pub mod Runs
 pub mod Counts
 pub mod Faults
-pub mod Answers
+pub mod Decided
+pub mod Headline
+pub mod Because
 pub mod Running

@@ -5,7 +5,9 @@ use Rattle.mk_base.specs.Streams.{CameWithin}
 use Rattle.mk_top.specs.declared.fault.Fault.{Fault}
 use Rattle.mk_top.specs.declared.fault.Fault.TheVariants.{Words, Source, ReadFault, WriteFault, Memory, TooLong}
 use Rattle.mk_words.specs.Words.{Command, Asks, IsNoForm}
-use Rattle.mk_top.specs.Answers.{ReadWhole, Makes, SourceDecides, TextDecides, limit_of, input_of, Reads, TakesWhole, TakesSome, IsAnswerOf}
+use Rattle.mk_top.specs.Decided.{SourceDecides, TextDecides, limit_of}
+use Rattle.mk_top.specs.Headline.{Makes, TakesWhole, TakesSome}
+use Rattle.mk_top.specs.Because.{ReadWhole, input_of, Reads, IsAnswerOf}
 use Rattle.mk_top.specs.Faults.{status_of}
 
 -- why a text was not read, by the input's bytes before and after and its count of faults before and after

@@ -1,6 +1,8 @@
 ghost use Rattle.std.specs.Prelude.{◌≡◌, ◌≤◌, Some, OnOk, IfErr, length};
 ghost use Rattle.mk_words.specs.Words.{Check};
-ghost use Rattle.mk_top.specs.Answers.{Checks, ReadWhole, limit_of};
+ghost use Rattle.mk_top.specs.Decided.{limit_of};
+ghost use Rattle.mk_top.specs.Headline.{Checks};
+ghost use Rattle.mk_top.specs.Because.{ReadWhole};
 ghost use Rattle.mk_top.specs.Running.{NotMade, NoText};
 
 use crate::fault::Fault;

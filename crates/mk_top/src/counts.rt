@@ -4,7 +4,8 @@ ghost use Rattle.std.specs.Prelude.{◌≡◌, ◌++◌, ◌≤◌, ◌<◌, ◌
 ghost use Rattle.std.specs.List.{list_all};
 ghost use Rattle.mk_words.specs.Words.{Count};
 ghost use Rattle.mk_top.specs.Counts.{Counts, row_line, table_text};
-ghost use Rattle.mk_top.specs.Answers.{ReadWhole, limit_of};
+ghost use Rattle.mk_top.specs.Decided.{limit_of};
+ghost use Rattle.mk_top.specs.Because.{ReadWhole};
 ghost use Rattle.mk_top.specs.Running.{NotMade, NoText};
 
 use crate::fault::Fault;

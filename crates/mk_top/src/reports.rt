@@ -2,7 +2,9 @@
 
 ghost use Rattle.std.specs.Prelude.{◌≤◌, Some, IfOk, IfErr, length};
 ghost use Rattle.mk_words.specs.Words.{Report};
-ghost use Rattle.mk_top.specs.Answers.{Reports, ReadWhole, limit_of};
+ghost use Rattle.mk_top.specs.Decided.{limit_of};
+ghost use Rattle.mk_top.specs.Headline.{Reports};
+ghost use Rattle.mk_top.specs.Because.{ReadWhole};
 ghost use Rattle.mk_top.specs.Running.{NotMade, NoText};
 
 use crate::fault::Fault;

@@ -7,7 +7,8 @@ ghost use Rattle.mk_run.specs.declared.refusal.RunRefusal.TheVariants as refusal
 ghost use Rattle.mk_words.specs.Words.{Run};
 ghost use Rattle.mk_top.specs.Forms.{given_of, IsShort};
 ghost use Rattle.mk_top.specs.Runs.{Runs, tape_of, run_text};
-ghost use Rattle.mk_top.specs.Answers.{ReadWhole, limit_of};
+ghost use Rattle.mk_top.specs.Decided.{limit_of};
+ghost use Rattle.mk_top.specs.Because.{ReadWhole};
 ghost use Rattle.mk_top.specs.Running.{NotMade, NoText};
 
 use crate::fault::Fault;

@@ -4,7 +4,9 @@ ghost use Rattle.std.specs.Prelude.{◌≤◌, ◌<◌, ◌^◌, Some, IfOk, IfE
 ghost use Rattle.mk_base.specs.declared.TheConstants.{TOP_ORDER};
 ghost use Rattle.mk_types.specs.Elements.{maps_of};
 ghost use Rattle.mk_words.specs.Words.{Compile, Eval};
-ghost use Rattle.mk_top.specs.Answers.{Compiles, Evaluates, ReadWhole, limit_of};
+ghost use Rattle.mk_top.specs.Decided.{limit_of};
+ghost use Rattle.mk_top.specs.Headline.{CompilesSo, Evaluates};
+ghost use Rattle.mk_top.specs.Because.{ReadWhole};
 ghost use Rattle.mk_top.specs.Sources.{IsSourceOf};
 ghost use Rattle.mk_top.specs.Running.{NotMade, NotTyped, NoText};
 
@@ -34,7 +36,7 @@ pub(crate) fn typed_source(alloc: Global, source: &[u8]) -> Result<Typed, Fault>
 fn text_of_source(alloc: Global, source: &[u8], order: u8) -> Result<Bytes, Fault>
     requires order { (1 ≤ order) × (order ≤ TOP_ORDER) }
     requires within { length source.now ≤ 1048576 }
-    ensures compiled { IfOk result (Compiles order (Some source.now)) }
+    ensures compiled { IfOk result (CompilesSo order (Some source.now)) }
     ensures fault { IfErr result (NotMade (Compile order) source.now) }
 {
     let typed = typed_source(alloc, source)?;
@@ -70,7 +72,7 @@ pub(crate) fn compiled_text<S: Source>(
     order: u8,
 ) -> Result<Bytes, Fault>
     requires { (1 ≤ order) × (order ≤ TOP_ORDER) }
-    ensures compiled { IfOk result (Compiles order (S.left src.old)) }
+    ensures compiled { IfOk result (CompilesSo order (S.left src.old)) }
     ensures read { IfOk result (λ _. ReadWhole (limit_of (Compile order)) (S.left src.old) (S.left src.new)) }
     ensures fault { IfErr result (NoText (Compile order) (S.left src.old) (S.left src.new) (S.faults src.old) (S.faults src.new)) }
     ensures never_falls { S.faults src.old ≤ S.faults src.new }

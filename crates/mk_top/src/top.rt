@@ -6,7 +6,9 @@ ghost use Rattle.mk_words.specs.Words.{Command, Compile, Check, Eval, Run, Count
 ghost use Rattle.mk_words.specs.Forms.{AreElements, AreProbes, IsTapeForm};
 ghost use Rattle.mk_top.specs.Forms.{IsShort, OfElements, OfRun, OfCount, given_of};
 ghost use Rattle.mk_top.specs.Faults.{status_of, fault_line};
-ghost use Rattle.mk_top.specs.Answers.{Compiles, Checks, Evaluates, Reports, Generates, Tries, Makes, Decides, Because, Reads, input_of, TakesWhole, TakesSome, Tells, answer_status, IsOrMemory, ReadsToEnd, ReadWhole, limit_of, WritesNothing, IsAnswerOf};
+ghost use Rattle.mk_top.specs.Decided.{Decides, limit_of};
+ghost use Rattle.mk_top.specs.Headline.{Compiles, CompilesSo, Checks, Evaluates, Reports, Generates, Tries, Makes, TakesWhole, TakesSome};
+ghost use Rattle.mk_top.specs.Because.{Because, Reads, input_of, Tells, answer_status, IsOrMemory, ReadsToEnd, ReadWhole, WritesNothing, IsAnswerOf};
 ghost use Rattle.mk_top.specs.Runs.{Runs};
 ghost use Rattle.mk_top.specs.Counts.{Counts};
 ghost use Rattle.mk_top.specs.Running.{Finished, StoppedAt, Stopped, ReadsOrLeaves};
@@ -293,7 +295,7 @@ fn trial_to<O: Sink>(alloc: Global, turns: u32, order: u8, out: &mut O) -> Resul
 }
 
 /// Carries out what the words ask for.
-fn run<S: Source, O: Sink>(
+fn carry_out<S: Source, O: Sink>(
     alloc: Global,
     words: &Words,
     src: &mut S,
@@ -372,6 +374,10 @@ pub fn mask_main<S: Source, O: Sink, E: Sink>(
     ensures compiled { (order : ℕ) → Asks words.now (Compile order) → result ≡ Status.Done
         → (written : List ℕ) × Compiles order (S.left src.old) written × TakesWhole (O.taken out.old) written (O.taken out.new) }
 
+    // And this code and certificate are made of the program's values, with refreshes where products need them.
+    ensures made { (order : ℕ) → Asks words.now (Compile order) → result ≡ Status.Done
+        → (written : List ℕ) × CompilesSo order (S.left src.old) written × TakesWhole (O.taken out.old) written (O.taken out.new) }
+
     // What `check` accepts is private, whoever wrote it.
     ensures checked { Asks words.now Check → result ≡ Status.Done
         → Checks (S.left src.old) × TakesWhole (O.taken out.old) (codes "accepted\n") (O.taken out.new) }
@@ -424,7 +430,7 @@ pub fn mask_main<S: Source, O: Sink, E: Sink>(
     ensures output { WritesNothing result → out.new ≡ out.old }
     ensures silent { result ≡ Status.Done → err.new ≡ err.old }
 {
-    match run(alloc, words, src, out) {
+    match carry_out(alloc, words, src, out) {
         Ok(()) => Status::Done,
         Err(fault) => {
             tell(err, fault);

@@ -3,7 +3,7 @@
 ghost use Rattle.std.specs.Prelude.{◌≡◌, ◌≤◌, [], IfOk, IfErr, count_by};
 ghost use Rattle.mk_base.specs.declared.TheConstants.{TOP_ORDER};
 ghost use Rattle.mk_words.specs.Words.{Gen, Trial};
-ghost use Rattle.mk_top.specs.Answers.{Generates, Tries, is_refresh, trial_line};
+ghost use Rattle.mk_top.specs.Headline.{Generates, Tries, is_refresh, trial_line};
 ghost use Rattle.mk_top.specs.Running.{NotMade};
 
 use crate::fault::Fault;

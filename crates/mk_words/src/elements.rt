@@ -11,7 +11,7 @@ use mk_base::{Bytes, Items, Memory};
 use std::alloc::Global;
 
 /// Whether a word says elements. It takes no memory.
-pub fn are_elements(word: &[u8]) -> bool
+pub(crate) fn are_elements(word: &[u8]) -> bool
     ensures { IsTrue result ↔ AreElements word.now }
 {
     if word == b"-".as_slice() {

@@ -9,7 +9,7 @@ use mk_base::{Items, Memory};
 use std::alloc::Global;
 
 /// The number below 2^32 that a word says.
-pub fn number_of(word: &[u8]) -> Option<u32>
+pub(crate) fn number_of(word: &[u8]) -> Option<u32>
     ensures found { IfSome result (λ number. word.now ≡ decimal number) }
     ensures none { IfNone result ((number : ℕ) → number < 2 ^ 32 → word.now ≡ decimal number → ⊥) }
 {
@@ -34,7 +34,7 @@ fn is_number(word: &[u8]) -> bool
 }
 
 /// Whether a word says probes. It takes no memory.
-pub fn are_probes(word: &[u8]) -> bool
+pub(crate) fn are_probes(word: &[u8]) -> bool
     ensures { IsTrue result ↔ AreProbes word.now }
 {
     if word == b"-".as_slice() {

@@ -1,7 +1,7 @@
 -- The bundle that was read is the one that was given.
 use Rattle.std.proofs.Common.{ℕ, List, Some, OnOk, IfErr, subst}
 use Rattle.mk_words.specs.Words.{Check}
-use Rattle.mk_top.specs.Answers.{Checks}
+use Rattle.mk_top.specs.Headline.{Checks}
 use Rattle.mk_top.specs.Running.{NotMade}
 use Rattle.mk_top.proofs.Given.{checked-given, no_text-given}
 use Rattle.mk_top.proofs.bundle.check_bundle.Goals as goal

@@ -1,7 +1,7 @@
 -- The bundle that was read is the one that was given.
 use Rattle.std.proofs.Common.{ℕ, List, Some, IfOk, IfErr, subst}
 use Rattle.mk_words.specs.Words.{Report}
-use Rattle.mk_top.specs.Answers.{Reports}
+use Rattle.mk_top.specs.Headline.{Reports}
 use Rattle.mk_top.specs.Running.{NotMade}
 use Rattle.mk_top.proofs.Given.{no_text-given}
 use Rattle.mk_top.proofs.Reported.{reported-given}

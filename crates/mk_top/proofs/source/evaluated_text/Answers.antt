@@ -1,7 +1,7 @@
 -- The source that was read is the one that was given.
 use Rattle.std.proofs.Common.{ℕ, List, Some, IfOk, IfErr, subst}
 use Rattle.mk_words.specs.Words.{Eval}
-use Rattle.mk_top.specs.Answers.{Evaluates}
+use Rattle.mk_top.specs.Headline.{Evaluates}
 use Rattle.mk_top.specs.Running.{NotMade}
 use Rattle.mk_top.proofs.Given.{evaluated-given, no_text-given}
 use Rattle.mk_top.proofs.source.evaluated_text.Goals as goal

@@ -1,7 +1,7 @@
 -- A source that was compiled, and its text put.
 use Rattle.std.proofs.Common.{ℕ, List, OnOk, IfErr, subst}
 use Rattle.mk_words.specs.Words.{Compile}
-use Rattle.mk_top.specs.Answers.{TakesWhole, TakesSome}
+use Rattle.mk_top.specs.Headline.{TakesWhole, TakesSome}
 use Rattle.mk_top.proofs.Ends.{put-finished, put-stopped}
 use Rattle.mk_top.proofs.top.compile_to.Goals as goal
 

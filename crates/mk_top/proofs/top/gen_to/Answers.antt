@@ -1,7 +1,7 @@
 -- The text stopped where the output failed.
 use Rattle.std.proofs.Common.{ℕ, List, [], Some, IfErr, refl, subst, arith}
 use Rattle.mk_words.specs.Words.{Gen}
-use Rattle.mk_top.specs.Answers.{TakesSome}
+use Rattle.mk_top.specs.Headline.{TakesSome}
 use Rattle.mk_top.proofs.Ends.{put-stopped}
 use Rattle.mk_top.proofs.top.gen_to.Goals as goal
 

@@ -3,12 +3,18 @@ use Rattle.std.proofs.Common.{IfSome, sym, ◌∙◌, subst}
 use Rattle.mk_bundle.proofs.Naming.{differ}
 use Rattle.mk_words.specs.Words.{Compile, Eval, Run, Count, Report, Gen, Trial}
 use Rattle.mk_words.specs.declared.status.Status.{Status}
-use Rattle.mk_top.specs.Answers.{Decides, IsOrMemory, answer_status, input_of, IsAnswerOf}
+use Rattle.mk_top.specs.Decided.{Decides}
+use Rattle.mk_top.specs.Because.{IsOrMemory, answer_status, input_of, IsAnswerOf}
 use Rattle.mk_top.proofs.Ends.{finished-at, stopped-at, stopped-cut, stopped-because, stopped-decided, stopped-answer, finished-decided, left-unread}
 use Rattle.mk_top.proofs.top.mask_main.Goals as goal
 
 pub returns-in-Ok-clause-compiled : goal.returns-in-Ok-clause-compiled
 returns-in-Ok-clause-compiled g c order asks done =
+    let at = finished-at _ (Compile order) _ _ _ _ c.in-Ok.ensures.finished asks in
+    (at.written, at.makes.0, at.whole)
+
+pub returns-in-Ok-clause-made : goal.returns-in-Ok-clause-made
+returns-in-Ok-clause-made g c order asks done =
     let at = finished-at _ (Compile order) _ _ _ _ c.in-Ok.ensures.finished asks in
     (at.written, at.makes, at.whole)
 
@@ -34,19 +40,19 @@ returns-in-Ok-clause-reported g c asks done =
 
 pub returns-in-Ok-clause-generated : goal.returns-in-Ok-clause-generated
 returns-in-Ok-clause-generated g c turns asks done =
-    let at = finished-at _ (Gen turns) (g.S.Source.left c.args.src.now) (g.S.Source.left c.run.new.src) _ _ c.in-Ok.ensures.finished asks in
+    let at = finished-at _ (Gen turns) (g.S.Source.left c.args.src.now) (g.S.Source.left c.carry_out.new.src) _ _ c.in-Ok.ensures.finished asks in
     (at.written, at.makes, at.whole)
 
 pub returns-in-Ok-clause-tried : goal.returns-in-Ok-clause-tried
 returns-in-Ok-clause-tried g c turns order asks done =
-    let at = finished-at _ (Trial turns order) (g.S.Source.left c.args.src.now) (g.S.Source.left c.run.new.src) _ _ c.in-Ok.ensures.finished asks in
+    let at = finished-at _ (Trial turns order) (g.S.Source.left c.args.src.now) (g.S.Source.left c.carry_out.new.src) _ _ c.in-Ok.ensures.finished asks in
     (at.written, at.makes, at.whole)
 
 pub returns-in-Ok-clause-unread : goal.returns-in-Ok-clause-unread
-returns-in-Ok-clause-unread g c command asks unread = left-unread _ command _ c.run.ensures.leaves asks unread
+returns-in-Ok-clause-unread g c command asks unread = left-unread _ command _ c.carry_out.ensures.leaves asks unread
 
 pub returns-in-Err-clause-unread : goal.returns-in-Err-clause-unread
-returns-in-Err-clause-unread g c command asks unread = left-unread _ command _ c.run.ensures.leaves asks unread
+returns-in-Err-clause-unread g c command asks unread = left-unread _ command _ c.carry_out.ensures.leaves asks unread
 
 pub returns-in-Ok-clause-decided : goal.returns-in-Ok-clause-decided
 returns-in-Ok-clause-decided g c command answer asks calm still =

@@ -2,7 +2,7 @@
 use Rattle.std.proofs.Common.{ℕ, List, OnOk, IfErr, subst}
 use Rattle.mk_words.specs.Words.{Run}
 use Rattle.mk_top.specs.Forms.{given_of}
-use Rattle.mk_top.specs.Answers.{TakesWhole, TakesSome}
+use Rattle.mk_top.specs.Headline.{TakesWhole, TakesSome}
 use Rattle.mk_top.proofs.Ends.{put-finished, put-stopped}
 use Rattle.mk_top.proofs.top.run_to.Goals as goal
 

@@ -1,7 +1,7 @@
 -- The numbers are those of the code and its certificate.
 use Rattle.std.proofs.Common.{◌≡◌, List, ℕ, IfOk, length, count_by, ap, subst, ◌∙◌}
 use Rattle.mk_ssa.specs.declared.Op.{Op}
-use Rattle.mk_top.specs.Answers.{is_refresh}
+use Rattle.mk_top.specs.Headline.{is_refresh}
 use Rattle.mk_top.proofs.Tried.{trial_line-of}
 use Rattle.mk_top.proofs.trials.line_of_trial.Goals as goal
 

@@ -4,7 +4,7 @@ use Rattle.mk_words.specs.Words.{Compile, Check, Report, Gen, Trial}
 use Rattle.mk_words.specs.Forms.{AsksSo}
 use Rattle.mk_words.specs.declared.command.Form.TheVariants as form
 use Rattle.mk_top.proofs.Ends.{finished-asked, stopped-asked, finished-evaluated, stopped-evaluated, finished-run, stopped-run, finished-count, stopped-count, asked-leaves}
-use Rattle.mk_top.proofs.top.run.Goals as goal
+use Rattle.mk_top.proofs.top.carry_out.Goals as goal
 
 pub returns-in-Some-Compile-clause-stopped : goal.returns-in-Some-Compile-clause-stopped
 returns-in-Some-Compile-clause-stopped g c =
