@@ -26,7 +26,7 @@ use Rattle.mk_top.proofs.Tried.{tries-decides}
 makes-decides : (words : List (List ℕ)) (command : Command) (bytes written : List ℕ) → Asks words command → Makes command (Some bytes) written → length bytes ≤ limit_of command
     → Decides command bytes None
 makes-decides words (Compile order) bytes written asks makes within =
-    (within, (makes.tree, makes.source.spelled.spelled, makes.source.typed, makes.within))
+    (within, (makes.0.tree, makes.0.source.spelled.spelled, makes.0.source.typed, makes.0.within))
 makes-decides words Check bytes written asks makes within =
     (within, (makes.0.code, makes.0.cert, makes.0.pair, makes.0.bundle, makes.0.accepted))
 makes-decides words (Eval ps ss) bytes written asks makes within =
