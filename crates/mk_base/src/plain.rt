@@ -68,3 +68,6 @@ impl Sink for DropSink {
         Ok(piece.len())
     }
 }
+
+#[cfg(test)]
+mod tests;
