@@ -1,7 +1,7 @@
 -- Texts that are appended one after the other, and the lines of outputs.
 use Rattle.std.proofs.Common.{◌≡◌, ℕ, suc, List, [], ◌++◌, take, drop, Result, Ok, Err, append_assoc}
 use Rattle.std.specs.Result.{IfOk}
-use Rattle.mk_bundle.specs.CodeLines.{out_line, out_lines}
+use Rattle.mk_lines.specs.CodeLines.{out_line, out_lines}
 
 -- no output has no line
 pub out_lines-none : (shares outputs : ℕ) (places : List ℕ) → outputs ≡ 0 → out_lines shares outputs places ≡ []

@@ -16,9 +16,9 @@ use Rattle.mk_ssa.specs.declared.Op.TheVariants as op
 use Rattle.mk_code.specs.declared.instr.Instr.{Instr}
 use Rattle.mk_code.specs.declared.instr.Instr.TheVariants as instr
 use Rattle.mk_lines.specs.Words.{OperandFits, hex_digit, hex_byte, operand_word}
-use Rattle.mk_bundle.specs.CertLines.{pair_words, mapped_words}
-use Rattle.mk_bundle.specs.CodeLines.{place_word}
-use Rattle.mk_bundle.specs.Pairs.{OpFits, is_line}
+use Rattle.mk_lines.specs.CertLines.{pair_words, mapped_words, OpFits}
+use Rattle.mk_lines.specs.CodeLines.{place_word}
+use Rattle.mk_bundle.specs.Pairs.{is_line}
 use Rattle.mk_bundle.proofs.Numbers.{own}
 use Rattle.mk_bundle.proofs.Spelled.{number_words}
 use Rattle.mk_bundle.proofs.Variants.{op_words, instr_words, InstrFits}

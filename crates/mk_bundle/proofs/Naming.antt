@@ -6,8 +6,8 @@ use Rattle.std.proofs.lemmas.Grind.{flat_map-append}
 use Rattle.mk_code.specs.Listing.{Listing}
 use Rattle.mk_rules.specs.Claimed.{Claimed}
 use Rattle.mk_lines.specs.Words.{line}
-use Rattle.mk_bundle.specs.CertLines.{op_line, claim_line}
-use Rattle.mk_bundle.specs.CodeLines.{map_line, instr_line, out_lines}
+use Rattle.mk_lines.specs.CertLines.{op_line, claim_line}
+use Rattle.mk_lines.specs.CodeLines.{map_line, instr_line, out_lines}
 use Rattle.mk_bundle.specs.Text.{field_line, number_line, head_lines, text}
 use Rattle.mk_bundle.specs.Pairs.{IsPair, IsBundleText, is_line, AreLines, BeginsWith, GoesWellFor, NamesFirst, TextsDiffer}
 use Rattle.mk_bundle.specs.declared.draft.Stage.{Stage}

@@ -20,10 +20,10 @@ use Rattle.mk_code.specs.Listing.{Listing, IsListing, HasMapsOnlyInBytes, AllFit
 use Rattle.mk_code.proofs.Instrs.{AllFit-push}
 use Rattle.mk_rules.specs.Claimed.{Claimed}
 use Rattle.mk_lines.specs.Words.{OperandFits, line}
-use Rattle.mk_bundle.specs.CertLines.{op_line, claim_line}
-use Rattle.mk_bundle.specs.CodeLines.{map_line, instr_line, place_word, out_line, out_lines}
+use Rattle.mk_lines.specs.CertLines.{op_line, claim_line, OpFits}
+use Rattle.mk_lines.specs.CodeLines.{map_line, instr_line, place_word, out_line, out_lines, MapFits}
 use Rattle.mk_bundle.specs.Text.{field_line, number_line, head_lines, text}
-use Rattle.mk_bundle.specs.Pairs.{OpFits, MapFits, IsPair}
+use Rattle.mk_bundle.specs.Pairs.{IsPair}
 use Rattle.mk_bundle.specs.declared.draft.Stage.{Stage}
 use Rattle.mk_bundle.specs.declared.draft.Stage.TheVariants.{Version, Field, Order, Secrets, Publics, Upper, Lower, Ended}
 use Rattle.mk_bundle.specs.Parsing.{◌>>=◌, after, number_at, number_of, map_of, operand_of, op_of, instr_of}

@@ -8,8 +8,8 @@ use Rattle.mk_field.specs.declared.map.AddMap.{AddMap}
 use Rattle.mk_ssa.specs.declared.Operand.{Operand}
 use Rattle.mk_ssa.specs.declared.Operand.TheVariants.{Secret, Public, Block}
 use Rattle.mk_lines.specs.Words.{OperandFits, hex_digit, hex_byte, operand_word}
-use Rattle.mk_bundle.specs.CertLines.{pair_words, mapped_words}
-use Rattle.mk_bundle.specs.Pairs.{MapFits}
+use Rattle.mk_lines.specs.CertLines.{pair_words, mapped_words}
+use Rattle.mk_lines.specs.CodeLines.{MapFits}
 use Rattle.mk_bundle.specs.Parsing.{◌>>=◌, after, whole, number_at, number_of, hex_value, hex_at, hex_of, images_at, map_of, operand_by, operand_at, operand_of, pair_of, mapped_of, numbers_of}
 use Rattle.mk_bundle.proofs.Steps.{bind_some, same_some, chosen, passed, not_passed, after_found, after_again, whole_found}
 use Rattle.mk_bundle.proofs.Numbers.{EndsNumber, number_found, number_again, number_of_found, number_of_again}

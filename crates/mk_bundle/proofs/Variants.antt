@@ -7,9 +7,8 @@ use Rattle.mk_ssa.specs.declared.Op.TheVariants as op
 use Rattle.mk_code.specs.declared.instr.Instr.{Instr}
 use Rattle.mk_code.specs.declared.instr.Instr.TheVariants as instr
 use Rattle.mk_lines.specs.Words.{OperandFits, line, hex_byte, operand_word}
-use Rattle.mk_bundle.specs.CertLines.{pair_words, mapped_words, op_line}
-use Rattle.mk_bundle.specs.CodeLines.{instr_line}
-use Rattle.mk_bundle.specs.Pairs.{OpFits}
+use Rattle.mk_lines.specs.CertLines.{pair_words, mapped_words, op_line, OpFits}
+use Rattle.mk_lines.specs.CodeLines.{instr_line}
 use Rattle.mk_bundle.specs.Parsing.{◌>>=◌, after, behind, or_else, hex_of, number_of, numbers_of, operand_of, pair_of, mapped_of, public_op_of, single_op_of, pair_op_of, op_of, instr_of}
 use Rattle.mk_bundle.proofs.Steps.{bind_some, same_some, chosen, behind_found, or_found, is_word}
 use Rattle.mk_bundle.proofs.Numbers.{number_of_found, number_of_again}

@@ -1,5 +1,3 @@
-pub mod CertLines
-pub mod CodeLines
 pub mod Text
 pub mod Sample
 pub mod Pairs

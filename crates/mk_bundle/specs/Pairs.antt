@@ -1,33 +1,12 @@
 -- Which pairs have a text, which texts are those of a pair, and where a text goes wrong.
-use Rattle.std.specs.Prelude.{◌≡◌, ℕ, ◌^◌, ◌≤◌, ◌<◌, ◌==◌, Bool, true, false, List, [], ◌∷◌, ◌++◌, length, flat_map, if◌then◌else◌}
+use Rattle.std.specs.Prelude.{◌≡◌, ℕ, ◌≤◌, ◌<◌, ◌==◌, Bool, true, false, List, [], ◌∷◌, ◌++◌, length, flat_map, if◌then◌else◌}
 use Rattle.std.specs.List.{AllByRecursion}
-use Rattle.mk_field.specs.declared.map.AddMap.{AddMap}
-use Rattle.mk_ssa.specs.declared.Op.{Op}
-use Rattle.mk_ssa.specs.declared.Op.TheVariants.{Const, PubAdd, PubMul, PubSq, PubMap, Lift, Add, AddPub, Scale, Sq, Map, Mul, Refresh}
 use Rattle.mk_code.specs.Listing.{Listing, IsListing}
 use Rattle.mk_rules.specs.Claimed.{Claimed}
 use Rattle.mk_lines.specs.Words.{OperandFits, line}
+use Rattle.mk_lines.specs.CertLines.{OpFits}
+use Rattle.mk_lines.specs.CodeLines.{MapFits}
 use Rattle.mk_bundle.specs.Text.{text}
-
--- the number of each operand has 32 bits, that of a map too, and a constant is a byte
-abbrev pub OpFits : Op → Type 0
-OpFits (Const value) = value < 256
-OpFits (PubAdd left right) = OperandFits left × OperandFits right
-OpFits (PubMul left right) = OperandFits left × OperandFits right
-OpFits (PubSq arg) = OperandFits arg
-OpFits (PubMap map arg) = (map < 2 ^ 32) × OperandFits arg
-OpFits (Lift arg) = OperandFits arg
-OpFits (Add left right) = OperandFits left × OperandFits right
-OpFits (AddPub left right) = OperandFits left × OperandFits right
-OpFits (Scale left right) = OperandFits left × OperandFits right
-OpFits (Sq arg) = OperandFits arg
-OpFits (Map map arg) = (map < 2 ^ 32) × OperandFits arg
-OpFits (Mul left right) = OperandFits left × OperandFits right
-OpFits (Refresh arg) = OperandFits arg
-
--- a map has the images of eight bits, which are bytes
-abbrev pub MapFits : AddMap → Type 0
-MapFits map = (length map.images ≡ 8) × AllByRecursion (λ b. b < 256) map.images
 
 -- a code that fits together and a certificate of any blocks and claims, within the limits
 pub record IsPair (code : Listing) (cert : Claimed) : Type 0 where

@@ -8,7 +8,7 @@ use Rattle.mk_code.specs.declared.instr.Instr.TheVariants.{Rnd, Const, Copy, Add
 use Rattle.mk_code.specs.Listing.{Listing}
 use Rattle.mk_rules.specs.Claimed.{Claimed}
 use Rattle.mk_lines.specs.Words.{line}
-use Rattle.mk_bundle.specs.CodeLines.{out_lines}
+use Rattle.mk_lines.specs.CodeLines.{out_lines}
 use Rattle.mk_bundle.specs.Text.{text}
 
 -- the sum of two secrets: shares 0 and 1 are those of the first secret, 2 and 3 those of the second

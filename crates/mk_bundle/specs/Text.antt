@@ -5,8 +5,8 @@ use Rattle.mk_field.specs.declared.field.FieldId.TheVariants.{Gf2, Gf256}
 use Rattle.mk_code.specs.Listing.{Listing}
 use Rattle.mk_rules.specs.Claimed.{Claimed}
 use Rattle.mk_lines.specs.Words.{line}
-use Rattle.mk_bundle.specs.CertLines.{op_line, claim_line}
-use Rattle.mk_bundle.specs.CodeLines.{map_line, instr_line, out_lines}
+use Rattle.mk_lines.specs.CertLines.{op_line, claim_line}
+use Rattle.mk_lines.specs.CodeLines.{map_line, instr_line, out_lines}
 
 -- the line of a field
 abbrev pub field_line : FieldId → List ℕ

@@ -22,7 +22,6 @@
 #![tactic(auto)]
 
 mod draft;
-mod lines;
 mod parse;
 mod read;
 mod text;

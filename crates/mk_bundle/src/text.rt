@@ -2,15 +2,15 @@ ghost use Rattle.std.specs.Prelude.{◌≡◌, ◌≤◌, ◌<◌, ◌/◌, ◌+
 ghost use Rattle.std.specs.List.{AllByRecursion};
 ghost use Rattle.mk_code.specs.Listing.{IsListing};
 ghost use Rattle.mk_lines.specs.Words.{OperandFits};
-ghost use Rattle.mk_bundle.specs.Pairs.{OpFits, MapFits, IsPair};
-ghost use Rattle.mk_bundle.specs.CertLines.{op_line, claim_line};
-ghost use Rattle.mk_bundle.specs.CodeLines.{map_line, instr_line, out_lines};
+ghost use Rattle.mk_bundle.specs.Pairs.{IsPair};
+ghost use Rattle.mk_lines.specs.CertLines.{op_line, claim_line, OpFits};
+ghost use Rattle.mk_lines.specs.CodeLines.{map_line, instr_line, out_lines, MapFits};
 ghost use Rattle.mk_bundle.specs.Text.{field_line, number_line, head_lines, text};
 
-use crate::lines::{push_claim, push_instr, push_map, push_op, push_out};
 use mk_base::{Bytes, Items, Memory};
 use mk_code::{Code, Instr};
 use mk_field::{AddMap, FieldId};
+use mk_lines::{push_claim, push_instr, push_map, push_op, push_out};
 use mk_rules::Cert;
 use mk_ssa::{Op, Operand};
 use std::alloc::{AllocError, Global};

@@ -1,9 +1,24 @@
-//! The words that texts share: an element is two lower-case hexadecimal digits, and an operand `sK`, `pK` or
-//! `bK`, for the secret, the public input or the block of number K, in decimal. Each call appends to a text.
+//! The lines that texts share, and their words.
+//!
+//! Each line ends with a line feed. Its words stand one space apart: numbers are decimal and without
+//! leading zeros, an element is two lower-case hexadecimal digits, and `V` is an operand, `sK`, `pK` or
+//! `bK`, for the secret, the public input or the block of number K. The lines are:
+//!
+//! - `map H` for an additive map, H being the images of the eight bits, that of bit 0 first;
+//! - `block const C`, `block padd V V`, `block pmul V V`, `block psq V`, `block pmap M V`,
+//!   `block lift V`, `block add V V`, `block addp V V`, `block scale V V`, `block sq V`, `block map M V`,
+//!   `block mul V V` or `block refresh V` for a block;
+//! - `claim V` for a claim;
+//! - `rnd`, `const C`, `copy P`, `add P P`, `mul P P`, `sq P` or `map M P` for an instruction;
+//! - `out` and the places of its shares for an output.
+//!
+//! Each call appends to a text.
 #![tactic(auto)]
 
+mod lines;
 mod words;
 
+pub use lines::{push_claim, push_instr, push_map, push_op, push_out};
 pub use words::{push_hex, push_operand};
 
 #[cfg(test)]

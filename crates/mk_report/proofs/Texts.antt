@@ -23,7 +23,7 @@ use Rattle.mk_rules.specs.Wired.{IsSharedThere, Wired}
 use Rattle.mk_rules.specs.Accepts.{IsAccepted}
 use Rattle.mk_rules.proofs.Doubled.{HasValue, reaches-there}
 use Rattle.mk_lines.specs.Words.{hex_byte, operand_word}
-use Rattle.mk_bundle.specs.CertLines.{op_line, block_line as line_of_block, pair_words, mapped_words}
+use Rattle.mk_lines.specs.CertLines.{op_line, block_line as line_of_block, pair_words, mapped_words}
 use Rattle.mk_report.specs.declared.need.Place.{Place}
 use Rattle.mk_report.specs.Reached.{ReachesPlace, ArePlacesOf}
 use Rattle.mk_report.specs.Report.{IsReport, kind_word, instrs_of, secret_line, block_line, total_line}

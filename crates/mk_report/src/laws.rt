@@ -6,7 +6,7 @@ ghost use Rattle.mk_ssa.specs.Kinds.{is_public};
 ghost use Rattle.mk_rules.specs.Claimed.{Claimed};
 ghost use Rattle.mk_rules.specs.Wired.{Wired};
 ghost use Rattle.mk_rules.specs.Accepts.{IsAccepted};
-ghost use Rattle.mk_bundle.specs.CertLines.{op_line, block_line};
+ghost use Rattle.mk_lines.specs.CertLines.{op_line, block_line};
 ghost use Rattle.mk_report.specs.declared.need.Place.{Place};
 ghost use Rattle.mk_report.specs.Reached.{ArePlacesOf};
 ghost use Rattle.mk_report.specs.Report.{IsReport, kind_word, instrs_of};

@@ -41,6 +41,3 @@ pub fn report(alloc: Global, code: &Code, cert: &Cert) -> Result<Bytes, Memory>
     }
     Ok(Items::from_vec(bytes))
 }
-
-#[cfg(test)]
-mod tests;

@@ -18,10 +18,10 @@ use Rattle.mk_ssa.specs.declared.Op.{Op}
 use Rattle.mk_ssa.specs.declared.Op.TheVariants.{Const, PubAdd, PubMul, PubSq, PubMap, Lift, Add, AddPub, Scale, Sq, Map, Mul, Refresh}
 use Rattle.mk_rules.specs.Claimed.{Claimed}
 use Rattle.mk_lines.specs.Words.{OperandFits, operand_word, line, hex_byte}
-use Rattle.mk_bundle.specs.CertLines.{op_line, claim_line}
-use Rattle.mk_bundle.specs.CodeLines.{map_line, instr_line, place_word, out_line, out_lines}
+use Rattle.mk_lines.specs.CertLines.{op_line, claim_line, OpFits}
+use Rattle.mk_lines.specs.CodeLines.{map_line, instr_line, place_word, out_line, out_lines, MapFits}
 use Rattle.mk_bundle.specs.Text.{text, head_lines, field_line, number_line}
-use Rattle.mk_bundle.specs.Pairs.{IsPair, OpFits, MapFits}
+use Rattle.mk_bundle.specs.Pairs.{IsPair}
 
 -- lists of at most m elements, one for each of these things, have together at most m for each
 short-lines : {X : Type 0} (f : X → List ℕ) (P : X → Type 0) (m : ℕ) → ((x : X) → P x → length (f x) ≤ m)

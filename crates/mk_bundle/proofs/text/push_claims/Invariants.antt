@@ -2,7 +2,7 @@
 use Rattle.std.proofs.Common.{◌≡◌, ◌++◌, take, flat_map, string_bytes}
 use Rattle.std.specs.List.{AllByRecursion}
 use Rattle.mk_lines.specs.Words.{OperandFits}
-use Rattle.mk_bundle.specs.CertLines.{claim_line}
+use Rattle.mk_lines.specs.CertLines.{claim_line}
 use Rattle.mk_bundle.proofs.text.push_claims.Given as goal
 
 abbrev pub invariant-loop-value : goal.invariant-loop-value

@@ -1,6 +1,6 @@
 -- What is appended for the instrs so far.
 use Rattle.std.proofs.Common.{◌≡◌, ◌++◌, take, flat_map, string_bytes}
-use Rattle.mk_bundle.specs.CodeLines.{instr_line}
+use Rattle.mk_lines.specs.CodeLines.{instr_line}
 use Rattle.mk_bundle.proofs.text.push_instrs.Given as goal
 
 abbrev pub invariant-loop-instr : goal.invariant-loop-instr

@@ -1,6 +1,6 @@
 -- One more output, with the next places; in the end no line is left.
 use Rattle.std.proofs.Common.{arith, ◌≡◌, ◌+◌, ◌-◌, ◌*◌, ◌/◌, ◌≤◌, ℕ, suc, [], ◌++◌, length, take, string_bytes, length-drop, append-nil}
-use Rattle.mk_bundle.specs.CodeLines.{out_line, out_lines}
+use Rattle.mk_lines.specs.CodeLines.{out_line, out_lines}
 use Rattle.mk_bundle.proofs.Appended.{out_lines-none, out_lines-more, line_moved}
 use Rattle.mk_bundle.proofs.text.push_outs.Goals as goal
 

@@ -1,6 +1,6 @@
 -- With the lines of the outputs that are left, the text is the one that is wanted, and enough places are left.
 use Rattle.std.proofs.Common.{◌≡◌, ◌≤◌, ◌*◌, ◌-◌, ◌/◌, ◌++◌, length, string_bytes}
-use Rattle.mk_bundle.specs.CodeLines.{out_lines}
+use Rattle.mk_lines.specs.CodeLines.{out_lines}
 use Rattle.mk_bundle.proofs.text.push_outs.Given as goal
 
 abbrev pub invariant-loop-output : goal.invariant-loop-output

@@ -2,7 +2,9 @@
 use Rattle.std.proofs.Common.{subst, ◌∙◌}
 use Rattle.std.specs.List.{AllByRecursion}
 use Rattle.mk_lines.specs.Words.{OperandFits}
-use Rattle.mk_bundle.specs.Pairs.{MapFits, OpFits, IsPair}
+use Rattle.mk_lines.specs.CertLines.{OpFits}
+use Rattle.mk_lines.specs.CodeLines.{MapFits}
+use Rattle.mk_bundle.specs.Pairs.{IsPair}
 use Rattle.mk_bundle.proofs.Appended.{if_ok_always}
 use Rattle.mk_bundle.proofs.text.to_text.Goals as goal
 

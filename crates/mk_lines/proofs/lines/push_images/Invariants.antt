@@ -2,7 +2,7 @@
 use Rattle.std.proofs.Common.{◌≡◌, ◌<◌, ◌++◌, take, flat_map, string_bytes}
 use Rattle.std.specs.List.{AllByRecursion}
 use Rattle.mk_lines.specs.Words.{hex_byte}
-use Rattle.mk_bundle.proofs.lines.push_images.Given as goal
+use Rattle.mk_lines.proofs.lines.push_images.Given as goal
 
 abbrev pub invariant-loop-image : goal.invariant-loop-image
 invariant-loop-image l = record {

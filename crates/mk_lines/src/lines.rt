@@ -1,18 +1,17 @@
 ghost use Rattle.std.specs.Prelude.{◌≡◌, ◌<◌, length, ◌^◌, ◌++◌, OnOk, string_bytes, flat_map};
 ghost use Rattle.std.specs.List.{AllByRecursion};
 ghost use Rattle.mk_lines.specs.Words.{OperandFits, hex_byte, operand_word};
-ghost use Rattle.mk_bundle.specs.CertLines.{block_line, pair_words, mapped_words, op_line, claim_line};
-ghost use Rattle.mk_bundle.specs.Pairs.{OpFits, MapFits};
-ghost use Rattle.mk_bundle.specs.CodeLines.{map_line, instr_line, place_word, out_line};
+ghost use Rattle.mk_lines.specs.CertLines.{block_line, pair_words, mapped_words, op_line, claim_line, OpFits};
+ghost use Rattle.mk_lines.specs.CodeLines.{map_line, instr_line, place_word, out_line, MapFits};
 
+use crate::words::{push_hex, push_operand};
 use mk_code::Instr;
 use mk_field::AddMap;
-use mk_lines::{push_hex, push_operand};
 use mk_ssa::{Op, Operand};
 use std::alloc::AllocError;
 
 /// Appends the line of a map: its images, that of bit 0 first.
-pub(crate) fn push_map(text: &mut String, map: AddMap) -> Result<(), AllocError>
+pub fn push_map(text: &mut String, map: AddMap) -> Result<(), AllocError>
     ensures text { OnOk result (string_bytes text.new ≡ string_bytes text.old ++ map_line map) }
     ensures fits { OnOk result (MapFits map) }
 {
@@ -33,7 +32,7 @@ fn push_images(text: &mut String, images: &[u8; 8]) -> Result<(), AllocError>
 }
 
 /// Appends the line of a block.
-pub(crate) fn push_op(text: &mut String, op: Op) -> Result<(), AllocError>
+pub fn push_op(text: &mut String, op: Op) -> Result<(), AllocError>
     ensures text { OnOk result (string_bytes text.new ≡ string_bytes text.old ++ op_line op) }
     ensures fits { OnOk result (OpFits op) }
 {
@@ -97,7 +96,7 @@ fn push_mapped(text: &mut String, kind: &str, map: u32, arg: Operand) -> Result<
 }
 
 /// Appends the line of a claim.
-pub(crate) fn push_claim(text: &mut String, value: Operand) -> Result<(), AllocError>
+pub fn push_claim(text: &mut String, value: Operand) -> Result<(), AllocError>
     ensures text { OnOk result (string_bytes text.new ≡ string_bytes text.old ++ claim_line value) }
     ensures fits { OnOk result (OperandFits value) }
 {
@@ -108,7 +107,7 @@ pub(crate) fn push_claim(text: &mut String, value: Operand) -> Result<(), AllocE
 
 /// Appends the line of an instruction.
 #[tactic(auto, using(std::proofs::lemmas::Fmt::hex_byte))]
-pub(crate) fn push_instr(text: &mut String, instr: Instr) -> Result<(), AllocError>
+pub fn push_instr(text: &mut String, instr: Instr) -> Result<(), AllocError>
     ensures { OnOk result (string_bytes text.new ≡ string_bytes text.old ++ instr_line instr) }
 {
     match instr {
@@ -123,7 +122,7 @@ pub(crate) fn push_instr(text: &mut String, instr: Instr) -> Result<(), AllocErr
 }
 
 /// Appends the line of an output: the places of its shares.
-pub(crate) fn push_out(text: &mut String, places: &[u32]) -> Result<(), AllocError>
+pub fn push_out(text: &mut String, places: &[u32]) -> Result<(), AllocError>
     ensures { OnOk result (string_bytes text.new ≡ string_bytes text.old ++ out_line places.now) }
 {
     text.push_str("out")?;
