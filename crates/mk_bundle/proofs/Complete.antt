@@ -16,19 +16,19 @@ use Rattle.mk_code.specs.declared.instr.Instr.{Instr}
 use Rattle.mk_code.specs.declared.instr.Instr.TheVariants as instr
 use Rattle.mk_code.specs.Listing.{Listing, IsListing, HasMapsOnlyInBytes, AllFit, FitsAt, inputs_len, trace_len}
 use Rattle.mk_rules.specs.Claimed.{Claimed}
-use Rattle.mk_lines.specs.Words.{OperandFits, line, hex_byte, operand_word}
+use Rattle.mk_lines.specs.Words.{OperandFits, line, hex_byte, operand_word, is_line}
 use Rattle.mk_lines.specs.CertLines.{op_line, claim_line, OpFits}
 use Rattle.mk_lines.specs.CodeLines.{map_line, instr_line, place_word, out_line, out_lines, MapFits}
 use Rattle.mk_bundle.specs.Text.{field_line, number_line, head_lines, text}
-use Rattle.mk_bundle.specs.Pairs.{IsPair, is_line, AreLines}
+use Rattle.mk_bundle.specs.Pairs.{IsPair, AreLines}
 use Rattle.mk_bundle.specs.declared.draft.Stage.TheVariants.{Field, Order, Secrets, Publics, Upper, Lower, Ended}
-use Rattle.mk_bundle.specs.Parsing.{◌>>=◌, after, whole}
-use Rattle.mk_bundle.specs.Reading.{State, start, version_line, field_line_of, field_read, headed, order_read, secrets_read, publics_read, has_maps, may_map, map_read, may_block, block_read, claim_read, code_read, upper_read, fits_at, may_instr, instr_read, places_of, out_read, lower_read, read_at, line_read, lines_read}
-use Rattle.mk_bundle.proofs.Steps.{after_again}
-use Rattle.mk_bundle.proofs.Numbers.{EndsNumber, number_again, number_of_again}
-use Rattle.mk_bundle.proofs.Spelled.{map_again, operand_of_again}
-use Rattle.mk_bundle.proofs.Variants.{op_words, op_line-words, op_again, instr_words, InstrFits, instr_line-words, instr_again}
-use Rattle.mk_bundle.proofs.Feeds.{is_line-decimal, is_line-images, is_line-places, is_line-operand, is_line-op, is_line-instr}
+use Rattle.mk_lines.specs.Parsing.{◌>>=◌, after, places_of}
+use Rattle.mk_bundle.specs.Reading.{State, start, version_line, field_line_of, field_read, headed, order_read, secrets_read, publics_read, has_maps, may_map, map_read, may_block, block_read, claim_read, code_read, upper_read, fits_at, may_instr, instr_read, out_read, lower_read, read_at, line_read, lines_read}
+use Rattle.mk_lines.proofs.Steps.{after_again}
+use Rattle.mk_lines.proofs.Numbers.{number_of_again}
+use Rattle.mk_lines.proofs.Spelled.{map_again, operand_of_again, places_again}
+use Rattle.mk_lines.proofs.Variants.{op_words, op_line-words, op_again, instr_words, InstrFits, instr_line-words, instr_again}
+use Rattle.mk_lines.proofs.Feeds.{is_line-decimal, is_line-images, is_line-places, is_line-operand, is_line-op, is_line-instr}
 use Rattle.mk_bundle.proofs.Sound.{at}
 
 -- ---- runs over lines
@@ -250,17 +250,6 @@ instr_runs code cert listing done i left e =
     let fits = fits_again code.field (length code.maps) (inputs_len code.order code.secrets code.publics + length done) i here in
     subst (λ (bytes : List ℕ). Runs (with_instrs code cert done) bytes (with_instrs code cert (done ++ i ∷ []))) (sym (instr_line-words i))
     (one_runs (with_instrs code cert done) (with_instrs code cert (done ++ i ∷ [])) (instr_words i) (is_line-instr i fit) (instr_next (with_instrs code cert done) i ∙ rw (instr_again i fit, few, fits) refl))
-
-behind_place : (places : List ℕ) → EndsNumber (flat_map place_word places)
-behind_place [] = tt
-behind_place (p ∷ ps) = refl
-
-places_again : (len : ℕ) (places : List ℕ) → len < 2 ^ 32 → AllByRecursion (λ p. p < len) places → places_of (length places) len (flat_map place_word places) ≡ Some places
-unfolding places_of after whole
-places_again len [] short all = refl
-places_again len (p ∷ ps) short all =
-    let low : p < len = all.0 in
-    rw (number_again p (flat_map place_word ps) (omega arith) (behind_place ps), lt-ltb p len low, places_again len ps short all.1) refl
 
 all_by : (len : ℕ) (xs : List ℕ) → ((k d : ℕ) → k < length xs → slice_index_or xs k d < len) → AllByRecursion (λ p. p < len) xs
 all_by len [] all = tt

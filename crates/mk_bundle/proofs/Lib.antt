@@ -1,10 +1,4 @@
 pub mod Appended
-pub mod Steps
-pub mod Numbers
-pub mod Loops
-pub mod Spelled
-pub mod Variants
-pub mod Feeds
 pub mod Sound
 pub mod Complete
 pub mod Naming

@@ -5,17 +5,17 @@ use Rattle.std.proofs.lemmas.List.{append-nil, take-append-drop, length-take-le}
 use Rattle.std.proofs.lemmas.Grind.{flat_map-append}
 use Rattle.mk_code.specs.Listing.{Listing}
 use Rattle.mk_rules.specs.Claimed.{Claimed}
-use Rattle.mk_lines.specs.Words.{line}
+use Rattle.mk_lines.specs.Words.{line, is_line}
 use Rattle.mk_lines.specs.CertLines.{op_line, claim_line}
 use Rattle.mk_lines.specs.CodeLines.{map_line, instr_line, out_lines}
 use Rattle.mk_bundle.specs.Text.{field_line, number_line, head_lines, text}
-use Rattle.mk_bundle.specs.Pairs.{IsPair, IsBundleText, is_line, AreLines, BeginsWith, GoesWellFor, NamesFirst, TextsDiffer}
+use Rattle.mk_bundle.specs.Pairs.{IsPair, IsBundleText, AreLines, BeginsWith, GoesWellFor, NamesFirst, TextsDiffer}
 use Rattle.mk_bundle.specs.declared.draft.Stage.{Stage}
 use Rattle.mk_bundle.specs.declared.draft.Stage.TheVariants.{Version, Field, Order, Secrets, Publics, Upper, Lower, Ended}
-use Rattle.mk_bundle.specs.Parsing.{◌>>=◌}
+use Rattle.mk_lines.specs.Parsing.{◌>>=◌}
 use Rattle.mk_bundle.specs.Reading.{State, start, read_at, line_read, lines_read, HasBounds}
-use Rattle.mk_bundle.proofs.Steps.{bind_some, same_some}
-use Rattle.mk_bundle.proofs.Feeds.{first_line, has_feed}
+use Rattle.mk_lines.proofs.Steps.{bind_some, same_some}
+use Rattle.mk_lines.proofs.Feeds.{first_line, has_feed}
 use Rattle.mk_bundle.proofs.Sound.{at, text_at, upper_text, lower_text, Good, IsFresh, fresh_pair, line_goes}
 use Rattle.mk_bundle.proofs.Complete.{text_runs, lines_read-append, All-append, All-front, All-back}
 

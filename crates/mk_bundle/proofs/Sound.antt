@@ -21,18 +21,18 @@ use Rattle.mk_code.proofs.Instrs.{AllFit-push}
 use Rattle.mk_rules.specs.Claimed.{Claimed}
 use Rattle.mk_lines.specs.Words.{OperandFits, line}
 use Rattle.mk_lines.specs.CertLines.{op_line, claim_line, OpFits}
-use Rattle.mk_lines.specs.CodeLines.{map_line, instr_line, place_word, out_line, out_lines, MapFits}
+use Rattle.mk_lines.specs.CodeLines.{map_line, instr_line, out_line, out_lines, MapFits}
 use Rattle.mk_bundle.specs.Text.{field_line, number_line, head_lines, text}
 use Rattle.mk_bundle.specs.Pairs.{IsPair}
 use Rattle.mk_bundle.specs.declared.draft.Stage.{Stage}
 use Rattle.mk_bundle.specs.declared.draft.Stage.TheVariants.{Version, Field, Order, Secrets, Publics, Upper, Lower, Ended}
-use Rattle.mk_bundle.specs.Parsing.{◌>>=◌, after, number_at, number_of, map_of, operand_of, op_of, instr_of}
-use Rattle.mk_bundle.specs.Reading.{State, version_line, field_line_of, field_read, headed, order_read, secrets_read, publics_read, has_maps, may_map, map_read, may_block, block_read, claim_read, code_read, upper_read, fits_at, may_instr, instr_read, places_of, out_read, lower_read, read_at}
+use Rattle.mk_lines.specs.Parsing.{◌>>=◌, after, number_of, map_of, operand_of, op_of, instr_of, places_of}
+use Rattle.mk_bundle.specs.Reading.{State, version_line, field_line_of, field_read, headed, order_read, secrets_read, publics_read, has_maps, may_map, map_read, may_block, block_read, claim_read, code_read, upper_read, fits_at, may_instr, instr_read, out_read, lower_read, read_at}
 use Rattle.mk_bundle.proofs.Appended.{out_lines-none}
-use Rattle.mk_bundle.proofs.Steps.{bind_some, same_some, chosen, passed, not_passed, after_found, whole_found, behind_found, is_word}
-use Rattle.mk_bundle.proofs.Numbers.{number_found, number_of_found}
-use Rattle.mk_bundle.proofs.Spelled.{map_found, operand_of_found}
-use Rattle.mk_bundle.proofs.Variants.{op_line-words, op_found, instr_line-words, instr_found}
+use Rattle.mk_lines.proofs.Steps.{bind_some, same_some, chosen, passed, not_passed, after_found, behind_found, is_word}
+use Rattle.mk_lines.proofs.Numbers.{number_of_found}
+use Rattle.mk_lines.proofs.Spelled.{map_found, operand_of_found, places_found}
+use Rattle.mk_lines.proofs.Variants.{op_line-words, op_found, instr_line-words, instr_found}
 
 -- a state of these parts
 abbrev pub at : Stage → Listing → Claimed → State
@@ -405,24 +405,6 @@ instr_goes code cert l next good e =
     last_instr : (head : List ℕ) (instrs : List Instr) (i : Instr) (outs : List ℕ) → outs ≡ [] → instr_line i ≡ line l
         → head ++ flat_map instr_line (instrs ++ i ∷ []) ++ outs ≡ (head ++ flat_map instr_line instrs ++ outs) ++ line l
     last_instr head instrs i outs none spelled = simp (none, append-nil, flat_map-push instr_line instrs i, spelled, append_assoc)
-
-places_found : (n len : ℕ) (bytes places : List ℕ) → places_of n len bytes ≡ Some places → (bytes ≡ flat_map place_word places) × (length places ≡ n) × AllByRecursion (λ p. p < len) places
-unfolding places_of
-places_found zero len bytes places e =
-    let w = whole_found {A = List ℕ} ([], bytes) places e in
-    let none : [] ≡ places = w.0 in
-    subst (λ (ps : List ℕ). (bytes ≡ flat_map place_word ps) × (length ps ≡ 0) × AllByRecursion (λ p. p < len) ps) none (w.1, refl, tt)
-places_found (suc n) len bytes places e =
-    let a = bind_some (after (codes " ") bytes) (λ (rest : List ℕ). number_at rest >>= λ place. cond (nat_lt place.0 len) (places_of n len place.1 >>= λ ps. Some (place.0 ∷ ps)) None) places e in
-    let b = bind_some (number_at a.0) (λ (place : ℕ × List ℕ). cond (nat_lt place.0 len) (places_of n len place.1 >>= λ ps. Some (place.0 ∷ ps)) None) places a.2 in
-    let h = passed (nat_lt b.0.0 len) (places_of n len b.0.1 >>= λ ps. Some (b.0.0 ∷ ps)) places b.2 in
-    let d = bind_some (places_of n len b.0.1) (λ (ps : List ℕ). Some (b.0.0 ∷ ps)) places h.1 in
-    let is : b.0.0 ∷ d.0 ≡ places = same_some (b.0.0 ∷ d.0) places d.2 in
-    let first = number_found a.0 b.0 b.1 in
-    let others = places_found n len b.0.1 d.0 d.1 in
-    let here : bytes ≡ flat_map place_word (b.0.0 ∷ d.0) =
-    after_found (codes " ") bytes a.0 a.1 ∙ ap (λ (r : List ℕ). codes " " ++ r) first.0 ∙ ap (λ (r : List ℕ). codes " " ++ (decimal b.0.0 ++ r)) others.0 in
-    subst (λ (ps : List ℕ). (bytes ≡ flat_map place_word ps) × (length ps ≡ suc n) × AllByRecursion (λ p. p < len) ps) is (here, ap suc others.1, (ltb-true b.0.0 len h.0, others.2))
 
 -- one more output
 pub out_lines-push : (shares outputs : ℕ) (outs places : List ℕ) → length outs ≡ outputs * shares → length places ≡ shares

@@ -1,9 +1,9 @@
 -- Which pairs have a text, which texts are those of a pair, and where a text goes wrong.
-use Rattle.std.specs.Prelude.{◌≡◌, ℕ, ◌≤◌, ◌<◌, ◌==◌, Bool, true, false, List, [], ◌∷◌, ◌++◌, length, flat_map, if◌then◌else◌}
+use Rattle.std.specs.Prelude.{◌≡◌, ℕ, ◌≤◌, ◌<◌, true, List, [], ◌++◌, length, flat_map}
 use Rattle.std.specs.List.{AllByRecursion}
 use Rattle.mk_code.specs.Listing.{Listing, IsListing}
 use Rattle.mk_rules.specs.Claimed.{Claimed}
-use Rattle.mk_lines.specs.Words.{OperandFits, line}
+use Rattle.mk_lines.specs.Words.{OperandFits, line, is_line}
 use Rattle.mk_lines.specs.CertLines.{OpFits}
 use Rattle.mk_lines.specs.CodeLines.{MapFits}
 use Rattle.mk_bundle.specs.Text.{text}
@@ -20,11 +20,6 @@ pub record IsPair (code : Listing) (cert : Claimed) : Type 0 where
 -- the text of a pair
 abbrev pub IsBundleText : List ℕ → Type 0
 IsBundleText bytes = (code : Listing) × (cert : Claimed) × IsPair code cert × (bytes ≡ text code cert)
-
--- no line feed stands in these bytes
-abbrev pub is_line : List ℕ → Bool
-is_line [] = true
-is_line (b ∷ bs) = if b == 10 then false else is_line bs
 
 abbrev pub AreLines : List (List ℕ) → Type 0
 AreLines lines = AllByRecursion (λ l. is_line l ≡ true) lines

@@ -1,5 +1,5 @@
 -- Reading a bundle text line by line, as lists.
-use Rattle.std.specs.Prelude.{◌≡◌, ℕ, zero, suc, ◌+◌, ◌*◌, ◌≤◌, Bool, true, false, ◌&&◌, List, [], ◌∷◌, ◌++◌, length, Option, Some, None, Result, Ok, Err, nat_lt, bytes_eq, codes, if◌then◌else◌}
+use Rattle.std.specs.Prelude.{◌≡◌, ℕ, ◌+◌, ◌*◌, ◌≤◌, Bool, true, false, ◌&&◌, List, [], ◌∷◌, ◌++◌, length, Option, Some, None, Result, Ok, Err, nat_lt, bytes_eq, codes, if◌then◌else◌}
 use Rattle.mk_field.specs.declared.field.FieldId.{FieldId}
 use Rattle.mk_field.specs.declared.field.FieldId.TheVariants.{Gf2, Gf256}
 use Rattle.mk_field.specs.Field.{size}
@@ -12,7 +12,7 @@ use Rattle.mk_bundle.specs.declared.draft.Stage.{Stage}
 use Rattle.mk_bundle.specs.declared.draft.Stage.TheVariants.{Version, Field, Order, Secrets, Publics, Upper, Lower, Ended}
 use Rattle.mk_bundle.specs.declared.draft.LineRefusal.{LineRefusal}
 use Rattle.mk_bundle.specs.declared.draft.LineRefusal.TheVariants as refusals
-use Rattle.mk_bundle.specs.Parsing.{◌>>=◌, after, whole, number_at, number_of, map_of, operand_of, op_of, instr_of, behind}
+use Rattle.mk_lines.specs.Parsing.{◌>>=◌, after, number_of, map_of, operand_of, op_of, instr_of, behind, places_of}
 
 -- what was read so far: where the next line stands, and the pair that the text has if only the lines
 -- that must come do come
@@ -132,14 +132,6 @@ unfoldable pub instr_read : State → List ℕ → Option State
 instr_read st line = do
   i ← instr_of line
   if may_instr st i then Some (record st { code = record st.code { instrs = st.code.instrs ++ i ∷ [] } }) else None
-
--- so many places below `len`, a space before each, and nothing behind them
-unfoldable pub places_of : ℕ → ℕ → List ℕ → Option (List ℕ)
-places_of zero len bytes = whole ([], bytes)
-places_of (suc n) len bytes = do
-  rest ← after (codes " ") bytes
-  place ← number_at rest
-  if nat_lt place.0 len then (places_of n len place.1 >>= λ places. Some (place.0 ∷ places)) else None
 
 unfoldable pub out_read : State → List ℕ → Option State
 out_read st words =

@@ -5,12 +5,13 @@ ghost use Rattle.mk_bundle.specs.declared.draft.Stage.TheVariants.{Ended};
 ghost use Rattle.mk_code.specs.Listing.{IsListing, trace_len};
 ghost use Rattle.mk_bundle.specs.Pairs.{IsPair};
 ghost use Rattle.mk_field.specs.Field.{size};
-ghost use Rattle.mk_bundle.specs.Reading.{Appends, start, state_of, Steps, version_line, field_line_of, field_read, headed, order_read, secrets_read, publics_read, has_maps, may_map, map_read, may_block, block_read, claim_read, code_read, upper_read, fits_at, may_instr, instr_read, places_of, out_read, lower_read, line_read, HasBounds};
+ghost use Rattle.mk_lines.specs.Parsing.{places_of};
+ghost use Rattle.mk_bundle.specs.Reading.{Appends, start, state_of, Steps, version_line, field_line_of, field_read, headed, order_read, secrets_read, publics_read, has_maps, may_map, map_read, may_block, block_read, claim_read, code_read, upper_read, fits_at, may_instr, instr_read, out_read, lower_read, line_read, HasBounds};
 
-use crate::parse::{after, instr_of, map_of, number_at, number_of, op_of, operand_of};
 use mk_base::{Items, Memory};
 use mk_code::{Code, Instr, InstrList, MOST_INPUTS, MOST_INSTRS, MOST_MAPS, MapList, PositionList};
 use mk_field::FieldId;
+use mk_lines::{after, instr_of, map_of, number_at, number_of, op_of, operand_of};
 use mk_rules::{Bundle, Cert};
 use std::alloc::Global;
 

@@ -22,7 +22,6 @@
 #![tactic(auto)]
 
 mod draft;
-mod parse;
 mod read;
 mod text;
 

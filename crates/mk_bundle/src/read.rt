@@ -1,10 +1,10 @@
-ghost use Rattle.std.specs.Prelude.{◌≡◌, ◌≤◌, ◌==◌, ℕ, Err, not, length, take_while, IfOk};
+ghost use Rattle.std.specs.Prelude.{◌≡◌, ◌≤◌, ℕ, Err, length, IfOk};
 ghost use Rattle.mk_bundle.specs.declared.read.BundleRefusal.TheVariants.{Form};
 ghost use Rattle.mk_bundle.specs.Text.{text as text_of};
 ghost use Rattle.mk_bundle.specs.Pairs.{IsPair, IsBundleText, NamesFirst, TextsDiffer};
-ghost use Rattle.mk_bundle.specs.Cutting.{Cuts};
 
 use crate::draft::{LineRefusal, bundle_of, empty_draft, is_ended, read_line};
+use mk_lines::cut;
 use mk_rules::Bundle;
 use std::alloc::Global;
 use thiserror::Error;
@@ -22,25 +22,6 @@ pub enum BundleRefusal {
     /// Memory was wanted and not found.
     #[error("out of memory")]
     Memory,
-}
-
-/// How many bytes stand before the first line feed.
-fn line_len(text: &[u8]) -> usize
-    ensures count { result ≡ length (take_while (λ b. not (b == 10)) text.now) }
-    ensures within { result ≤ length text.now }
-{
-    text.iter().take_while(|byte| **byte != b'\n').count()
-}
-
-/// The first line, and the bytes behind its line feed.
-fn cut(text: &[u8]) -> Option<(&[u8], &[u8])>
-    ensures { Cuts result text.now }
-{
-    let (line, behind) = text.split_at(line_len(text));
-    match behind {
-        [] => None,
-        [_, rest @ ..] => Some((line, rest)),
-    }
 }
 
 /// The bundle whose text this is.

@@ -1,11 +1,16 @@
 -- The words that texts share, and their lines.
-use Rattle.std.specs.Prelude.{ℕ, ◌+◌, ◌/◌, ◌%◌, ◌<◌, ◌^◌, List, [], ◌∷◌, ◌++◌, nat_lt, if◌then◌else◌, codes, decimal}
+use Rattle.std.specs.Prelude.{ℕ, ◌+◌, ◌/◌, ◌%◌, ◌<◌, ◌^◌, ◌==◌, Bool, true, false, List, [], ◌∷◌, ◌++◌, nat_lt, if◌then◌else◌, codes, decimal}
 use Rattle.mk_ssa.specs.declared.Operand.{Operand}
 use Rattle.mk_ssa.specs.declared.Operand.TheVariants.{Secret, Public, Block}
 
 -- a line: its words, and a line feed
 abbrev pub line : List ℕ → List ℕ
 line words = words ++ 10 ∷ []
+
+-- no line feed stands in these bytes
+abbrev pub is_line : List ℕ → Bool
+is_line [] = true
+is_line (b ∷ bs) = if b == 10 then false else is_line bs
 
 -- a number below 16 as a digit: 0 to 9, then a to f
 abbrev pub hex_digit : ℕ → ℕ

@@ -12,13 +12,18 @@
 //! - `rnd`, `const C`, `copy P`, `add P P`, `mul P P`, `sq P` or `map M P` for an instruction;
 //! - `out` and the places of its shares for an output.
 //!
-//! Each call appends to a text.
+//! A call that writes appends to a text. One that reads takes the bytes from their front on, and answers
+//! `None` where they don't spell what it reads.
 #![tactic(auto)]
 
+mod cutting;
 mod lines;
+mod parse;
 mod words;
 
+pub use cutting::cut;
 pub use lines::{push_claim, push_instr, push_map, push_op, push_out};
+pub use parse::{after, instr_of, map_of, number_at, number_of, op_of, operand_of};
 pub use words::{push_hex, push_operand};
 
 #[cfg(test)]

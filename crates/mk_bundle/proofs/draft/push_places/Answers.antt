@@ -1,7 +1,7 @@
 -- Place after place.
 use Rattle.std.proofs.Common.{◌≡◌, ◌+◌, ◌-◌, ◌++◌, ℕ, suc, List, [], ◌∷◌, arith, ◌∙◌, ap, append_assoc}
-use Rattle.mk_bundle.proofs.Steps.{some_bytes, no_bytes}
-use Rattle.mk_bundle.proofs.Loops.{place_more, place_no_space, place_no_number, place_high, places_done, places_behind}
+use Rattle.mk_lines.proofs.Steps.{some_bytes, no_bytes}
+use Rattle.mk_lines.proofs.Loops.{place_more, place_no_space, place_no_number, place_high, places_done, places_behind}
 use Rattle.mk_bundle.proofs.draft.push_places.Goals as goal
 
 pub returns-in_default : goal.returns-in_default

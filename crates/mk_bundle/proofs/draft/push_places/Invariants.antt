@@ -1,7 +1,6 @@
 -- The places so far, before those that the rest gives, are those that all bytes give.
 use Rattle.std.proofs.Common.{◌≡◌, ℕ, ◌-◌, ◌++◌, List, Some}
-use Rattle.mk_bundle.specs.Parsing.{◌>>=◌}
-use Rattle.mk_bundle.specs.Reading.{places_of}
+use Rattle.mk_lines.specs.Parsing.{◌>>=◌, places_of}
 use Rattle.mk_bundle.proofs.draft.push_places.Given as goal
 
 abbrev pub invariant-loop : goal.invariant-loop

@@ -2,7 +2,7 @@
 use Rattle.std.proofs.Common.{◌≡◌, ℕ, [], true, sym, subst, arith}
 use Rattle.mk_bundle.specs.Pairs.{NamesFirst}
 use Rattle.mk_bundle.specs.Reading.{state_of}
-use Rattle.mk_bundle.proofs.Steps.{some_bytes, no_bytes}
+use Rattle.mk_lines.proofs.Steps.{some_bytes, no_bytes}
 use Rattle.mk_bundle.proofs.Naming.{Progress, begun, further, bounds, reached, number_small, names, no_text, whole_text, stuck_at, stuck_end, some_left, same_pair}
 use Rattle.mk_bundle.proofs.read.read_bundle.Goals as goal
 

@@ -15,13 +15,12 @@ use Rattle.mk_ssa.specs.declared.Op.{Op}
 use Rattle.mk_ssa.specs.declared.Op.TheVariants as op
 use Rattle.mk_code.specs.declared.instr.Instr.{Instr}
 use Rattle.mk_code.specs.declared.instr.Instr.TheVariants as instr
-use Rattle.mk_lines.specs.Words.{OperandFits, hex_digit, hex_byte, operand_word}
+use Rattle.mk_lines.specs.Words.{OperandFits, hex_digit, hex_byte, operand_word, is_line}
 use Rattle.mk_lines.specs.CertLines.{pair_words, mapped_words, OpFits}
 use Rattle.mk_lines.specs.CodeLines.{place_word}
-use Rattle.mk_bundle.specs.Pairs.{is_line}
-use Rattle.mk_bundle.proofs.Numbers.{own}
-use Rattle.mk_bundle.proofs.Spelled.{number_words}
-use Rattle.mk_bundle.proofs.Variants.{op_words, instr_words, InstrFits}
+use Rattle.mk_lines.proofs.Numbers.{own}
+use Rattle.mk_lines.proofs.Spelled.{number_words}
+use Rattle.mk_lines.proofs.Variants.{op_words, instr_words, InstrFits}
 
 unlike : (b : ℕ) → (b == 10) ≡ false → b ≡ 10 → ⊥
 unlike b other is = let same : (b == 10) ≡ true = eq-eqb b 10 is in absurd (cc)

@@ -2,9 +2,9 @@
 use Rattle.std.proofs.Common.{◌≡◌, ◌+◌, ◌-◌, ◌<◌, ◌++◌, ℕ, suc, List, [], ◌∷◌, length, take, Some, arith, ◌∙◌, ap, add-one, length-set}
 use Rattle.std.proofs.Math.ListN.{set}
 use Rattle.std.proofs.Math.Seq.{take-suc-set, take-length}
-use Rattle.mk_bundle.specs.Parsing.{◌>>=◌, images_at}
-use Rattle.mk_bundle.proofs.Loops.{image_more, image_stops, images_done, Images, fronted}
-use Rattle.mk_bundle.proofs.parse.images_at.Goals as goal
+use Rattle.mk_lines.specs.Parsing.{◌>>=◌, images_at}
+use Rattle.mk_lines.proofs.Loops.{image_more, image_stops, images_done, Images, fronted}
+use Rattle.mk_lines.proofs.parse.images_at.Goals as goal
 
 pub returns-in_err-image : goal.returns-in_err-image
 returns-in_err-image c =

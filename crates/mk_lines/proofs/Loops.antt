@@ -6,10 +6,9 @@ use Rattle.std.proofs.lemmas.Bool.{lt-ltb, le-ltb}
 use Rattle.std.proofs.lemmas.List.{append-nil}
 use Rattle.std.proofs.Math.Seq.{drop-cons}
 use Rattle.std.proofs.Math.ListN.{drop_of_length-le}
-use Rattle.mk_bundle.specs.Parsing.{◌>>=◌, Tells, after, whole, valued, leads, number_by, number_at, hex_at, images_at}
-use Rattle.mk_bundle.specs.Reading.{places_of}
-use Rattle.mk_bundle.proofs.Steps.{after_found, after_again}
-use Rattle.mk_bundle.proofs.Numbers.{valued-ge}
+use Rattle.mk_lines.specs.Parsing.{◌>>=◌, Tells, after, whole, valued, leads, number_by, number_at, hex_at, images_at, places_of}
+use Rattle.mk_lines.proofs.Steps.{after_found, after_again}
+use Rattle.mk_lines.proofs.Numbers.{valued-ge}
 
 -- a front that is there or not
 pub after_tells : (word bytes : List ℕ) (r : Option (Bor (List ℕ))) → MatchOption r ((rest : List ℕ) → bytes ≢ word ++ rest) (λ x. bytes ≡ word ++ x.now) → Tells (λ (x : Bor (List ℕ)). x.now) r (after word bytes)

@@ -1,8 +1,8 @@
 -- Digit after digit.
 use Rattle.std.proofs.Common.{◌≡◌, ◌+◌, ◌*◌, ℕ, arith, sym, ◌∙◌, ap, get_or, ◌-◌, drop}
-use Rattle.mk_bundle.specs.Parsing.{valued}
-use Rattle.mk_bundle.proofs.Loops.{digit_more, too_large, all_digits}
-use Rattle.mk_bundle.proofs.parse.number_by.Goals as goal
+use Rattle.mk_lines.specs.Parsing.{valued}
+use Rattle.mk_lines.proofs.Loops.{digit_more, too_large, all_digits}
+use Rattle.mk_lines.proofs.parse.number_by.Goals as goal
 
 pub returns-then-value-gt4294967295 : goal.returns-then-value-gt4294967295
 returns-then-value-gt4294967295 c =

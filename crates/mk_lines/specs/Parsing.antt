@@ -186,3 +186,11 @@ instr_of words =
     behind (after (codes "mul ") words) (λ rest. numbers_of rest >>= λ p. Some (instr.Mul p.0 p.1)) (
     behind (after (codes "sq ") words) (λ rest. number_of rest >>= λ from. Some (instr.Sq from)) (
     behind (after (codes "map ") words) (λ rest. numbers_of rest >>= λ p. Some (instr.Map p.0 p.1)) None))))))
+
+-- so many places below `len`, a space before each, and nothing behind them
+unfoldable pub places_of : ℕ → ℕ → List ℕ → Option (List ℕ)
+places_of zero len bytes = whole ([], bytes)
+places_of (suc n) len bytes = do
+  rest ← after (codes " ") bytes
+  place ← number_at rest
+  if nat_lt place.0 len then (places_of n len place.1 >>= λ places. Some (place.0 ∷ places)) else None

@@ -1,8 +1,8 @@
 -- A front that is taken off, by what slices say of it.
 use Rattle.std.proofs.lemmas.Bool.Decides.{Decides-eqb}
 use Rattle.std.proofs.lemmas.Slice.Eq.{strip_prefix_is}
-use Rattle.mk_bundle.proofs.Loops.{after_tells}
-use Rattle.mk_bundle.proofs.parse.after.Goals as goal
+use Rattle.mk_lines.proofs.Loops.{after_tells}
+use Rattle.mk_lines.proofs.parse.after.Goals as goal
 
 pub returns : goal.returns
 returns c =

@@ -8,8 +8,8 @@ use Rattle.std.proofs.lemmas.List.{drop_at, append-nil}
 use Rattle.std.proofs.lemmas.List.Sums.{take_while-cons}
 use Rattle.std.proofs.lemmas.Str.Parse.{IsNumeralModel, numerals_by_fold}
 use Rattle.std.proofs.lemmas.Fmt.{digits_decimal, digits_value-decimal, decimal-digits_value, decimal_nonempty, first_decimal, decimal_digit}
-use Rattle.mk_bundle.specs.Parsing.{whole, valued, leads, number_by, number_at, number_of}
-use Rattle.mk_bundle.proofs.Steps.{bind_some, same_some, passed, whole_found}
+use Rattle.mk_lines.specs.Parsing.{whole, valued, leads, number_by, number_at, number_of}
+use Rattle.mk_lines.proofs.Steps.{bind_some, same_some, passed, whole_found}
 
 -- what stands behind a number doesn't go on with it
 abbrev pub EndsNumber : List ℕ → Type 0

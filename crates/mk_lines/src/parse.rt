@@ -2,14 +2,14 @@
 
 ghost use Rattle.std.specs.Prelude.{◌≡◌, ◌≤◌, length, IfSome, take_while};
 ghost use Rattle.std.specs.Char.{is_ascii_digit};
-ghost use Rattle.mk_bundle.specs.Parsing.{Tells, after, leads, number_by, number_at, number_of, hex_value, hex_at, hex_of, images_at, map_of, operand_by, operand_at, operand_of, pair_of, mapped_of, numbers_of, public_op_of, single_op_of, pair_op_of, op_of, instr_of};
+ghost use Rattle.mk_lines.specs.Parsing.{Tells, after, leads, number_by, number_at, number_of, hex_value, hex_at, hex_of, images_at, map_of, operand_by, operand_at, operand_of, pair_of, mapped_of, numbers_of, public_op_of, single_op_of, pair_op_of, op_of, instr_of};
 
 use mk_code::Instr;
 use mk_field::AddMap;
 use mk_ssa::{Op, Operand};
 
-/// The bytes behind this word, which stands at their front.
-pub(crate) fn after<'a>(word: &[u8], bytes: &'a [u8]) -> Option<&'a [u8]>
+/// The bytes behind this word, or `None` where it doesn't stand at their front.
+pub fn after<'a>(word: &[u8], bytes: &'a [u8]) -> Option<&'a [u8]>
     ensures { Tells (λ rest. rest.now) result (after word.now bytes.now) }
 {
     bytes.strip_prefix(word)
@@ -56,9 +56,10 @@ fn number_by(digits: &[u8]) -> Option<u32>
     Some(value as u32)
 }
 
-/// The number at the front, which all digits there belong to, and the bytes behind it.
+/// The number at the front, in decimal, which all digits there belong to, and the bytes behind it. `None`
+/// where there is no digit, a leading zero, or a number of more than 32 bits.
 #[tactic(auto, unfolding(crate::specs::Parsing::number_at))]
-pub(crate) fn number_at(bytes: &[u8]) -> Option<(u32, &[u8])>
+pub fn number_at(bytes: &[u8]) -> Option<(u32, &[u8])>
     ensures { Tells (λ x. (x.0, x.1.now)) result (number_at bytes.now) }
 {
     let (digits, rest) = bytes.split_at(digit_count(bytes));
@@ -66,9 +67,9 @@ pub(crate) fn number_at(bytes: &[u8]) -> Option<(u32, &[u8])>
     Some((number, rest))
 }
 
-/// A number with nothing behind it.
+/// A number, as `number_at` reads it, with nothing behind it.
 #[tactic(auto, unfolding(crate::specs::Parsing::number_of, crate::specs::Parsing::whole))]
-pub(crate) fn number_of(bytes: &[u8]) -> Option<u32>
+pub fn number_of(bytes: &[u8]) -> Option<u32>
     ensures { result ≡ number_of bytes.now }
 {
     let (number, rest) = number_at(bytes)?;
@@ -138,9 +139,10 @@ fn images_at(bytes: &[u8]) -> Option<([u8; 8], &[u8])>
     Some((images, rest))
 }
 
-/// A map: the images of the eight bits, that of bit 0 first, with nothing behind them.
+/// A map: the images of the eight bits, that of bit 0 first, each as two lower-case hexadecimal digits, with
+/// nothing between or behind them.
 #[tactic(auto, unfolding(crate::specs::Parsing::map_of, crate::specs::Parsing::whole))]
-pub(crate) fn map_of(bytes: &[u8]) -> Option<AddMap>
+pub fn map_of(bytes: &[u8]) -> Option<AddMap>
     ensures { result ≡ map_of bytes.now }
 {
     let (images, rest) = images_at(bytes)?;
@@ -180,9 +182,9 @@ fn operand_at(bytes: &[u8]) -> Option<(Operand, &[u8])>
     Some((operand, rest))
 }
 
-/// An operand with nothing behind it.
+/// An operand with nothing behind it: `sK`, `pK` or `bK`, K as `number_at` reads it.
 #[tactic(auto, unfolding(crate::specs::Parsing::operand_of, crate::specs::Parsing::whole))]
-pub(crate) fn operand_of(bytes: &[u8]) -> Option<Operand>
+pub fn operand_of(bytes: &[u8]) -> Option<Operand>
     ensures { result ≡ operand_of bytes.now }
 {
     let (operand, rest) = operand_at(bytes)?;
@@ -295,9 +297,9 @@ fn pair_op_of(words: &[u8]) -> Option<Op>
     Some(Op::Mul { left, right })
 }
 
-/// A block: what stands in its line behind `block `.
+/// A block: what stands in its line behind `block `, its kind and its words, up to the line feed.
 #[tactic(auto, unfolding(crate::specs::Parsing::op_of))]
-pub(crate) fn op_of(words: &[u8]) -> Option<Op>
+pub fn op_of(words: &[u8]) -> Option<Op>
     ensures { result ≡ op_of words.now }
 {
     if let Some(op) = public_op_of(words) {
@@ -309,9 +311,9 @@ pub(crate) fn op_of(words: &[u8]) -> Option<Op>
     pair_op_of(words)
 }
 
-/// An instruction: its line.
+/// An instruction: its line, up to the line feed.
 #[tactic(auto, unfolding(crate::specs::Parsing::instr_of))]
-pub(crate) fn instr_of(words: &[u8]) -> Option<Instr>
+pub fn instr_of(words: &[u8]) -> Option<Instr>
     ensures { result ≡ instr_of words.now }
 {
     if words == b"rnd".as_slice() {

@@ -1,8 +1,8 @@
 -- The first line feed stands behind the line.
 use Rattle.std.proofs.Common.{ℕ, take, drop, ap, ◌∙◌, arith}
 use Rattle.std.proofs.lemmas.List.{nil_from_length}
-use Rattle.mk_bundle.proofs.Feeds.{cuts_behind, cuts_nothing}
-use Rattle.mk_bundle.proofs.read.cut.Goals as goal
+use Rattle.mk_lines.proofs.Feeds.{cuts_behind, cuts_nothing}
+use Rattle.mk_lines.proofs.cutting.cut.Goals as goal
 
 pub returns-in-empty : goal.returns-in-empty
 returns-in-empty c =

@@ -9,10 +9,10 @@ use Rattle.mk_ssa.specs.declared.Operand.{Operand}
 use Rattle.mk_ssa.specs.declared.Operand.TheVariants.{Secret, Public, Block}
 use Rattle.mk_lines.specs.Words.{OperandFits, hex_digit, hex_byte, operand_word}
 use Rattle.mk_lines.specs.CertLines.{pair_words, mapped_words}
-use Rattle.mk_lines.specs.CodeLines.{MapFits}
-use Rattle.mk_bundle.specs.Parsing.{◌>>=◌, after, whole, number_at, number_of, hex_value, hex_at, hex_of, images_at, map_of, operand_by, operand_at, operand_of, pair_of, mapped_of, numbers_of}
-use Rattle.mk_bundle.proofs.Steps.{bind_some, same_some, chosen, passed, not_passed, after_found, after_again, whole_found}
-use Rattle.mk_bundle.proofs.Numbers.{EndsNumber, number_found, number_again, number_of_found, number_of_again}
+use Rattle.mk_lines.specs.CodeLines.{MapFits, place_word}
+use Rattle.mk_lines.specs.Parsing.{◌>>=◌, after, whole, number_at, number_of, hex_value, hex_at, hex_of, images_at, map_of, operand_by, operand_at, operand_of, pair_of, mapped_of, numbers_of, places_of}
+use Rattle.mk_lines.proofs.Steps.{bind_some, same_some, chosen, passed, not_passed, after_found, after_again, whole_found}
+use Rattle.mk_lines.proofs.Numbers.{EndsNumber, number_found, number_again, number_of_found, number_of_again}
 
 -- ---- hexadecimal digits
 
@@ -258,3 +258,34 @@ numbers_again left right small_left small_right =
     ap (λ (o : Option (ℕ × List ℕ)). o >>= λ left. after (codes " ") left.1 >>= λ rest. number_of rest >>= λ right. Some (left.0, right)) first
     ∙ ap (λ (o : Option (List ℕ)). o >>= λ rest. number_of rest >>= λ right. Some (left, right)) (after_again (codes " ") (decimal right))
     ∙ ap (λ (o : Option ℕ). o >>= λ right. Some (left, right)) (number_of_again right small_right)
+
+-- ---- places
+
+pub places_found : (n len : ℕ) (bytes places : List ℕ) → places_of n len bytes ≡ Some places → (bytes ≡ flat_map place_word places) × (length places ≡ n) × AllByRecursion (λ p. p < len) places
+unfolding places_of
+places_found zero len bytes places e =
+    let w = whole_found {A = List ℕ} ([], bytes) places e in
+    let none : [] ≡ places = w.0 in
+    subst (λ (ps : List ℕ). (bytes ≡ flat_map place_word ps) × (length ps ≡ 0) × AllByRecursion (λ p. p < len) ps) none (w.1, refl, tt)
+places_found (suc n) len bytes places e =
+    let a = bind_some (after (codes " ") bytes) (λ (rest : List ℕ). number_at rest >>= λ place. cond (nat_lt place.0 len) (places_of n len place.1 >>= λ ps. Some (place.0 ∷ ps)) None) places e in
+    let b = bind_some (number_at a.0) (λ (place : ℕ × List ℕ). cond (nat_lt place.0 len) (places_of n len place.1 >>= λ ps. Some (place.0 ∷ ps)) None) places a.2 in
+    let h = passed (nat_lt b.0.0 len) (places_of n len b.0.1 >>= λ ps. Some (b.0.0 ∷ ps)) places b.2 in
+    let d = bind_some (places_of n len b.0.1) (λ (ps : List ℕ). Some (b.0.0 ∷ ps)) places h.1 in
+    let is : b.0.0 ∷ d.0 ≡ places = same_some (b.0.0 ∷ d.0) places d.2 in
+    let first = number_found a.0 b.0 b.1 in
+    let others = places_found n len b.0.1 d.0 d.1 in
+    let here : bytes ≡ flat_map place_word (b.0.0 ∷ d.0) =
+    after_found (codes " ") bytes a.0 a.1 ∙ ap (λ (r : List ℕ). codes " " ++ r) first.0 ∙ ap (λ (r : List ℕ). codes " " ++ (decimal b.0.0 ++ r)) others.0 in
+    subst (λ (ps : List ℕ). (bytes ≡ flat_map place_word ps) × (length ps ≡ suc n) × AllByRecursion (λ p. p < len) ps) is (here, ap suc others.1, (ltb-true b.0.0 len h.0, others.2))
+
+behind_place : (places : List ℕ) → EndsNumber (flat_map place_word places)
+behind_place [] = tt
+behind_place (p ∷ ps) = refl
+
+pub places_again : (len : ℕ) (places : List ℕ) → len < 2 ^ 32 → AllByRecursion (λ p. p < len) places → places_of (length places) len (flat_map place_word places) ≡ Some places
+unfolding places_of after whole
+places_again len [] short all = refl
+places_again len (p ∷ ps) short all =
+    let low : p < len = all.0 in
+    rw (number_again p (flat_map place_word ps) (omega arith) (behind_place ps), lt-ltb p len low, places_again len ps short all.1) refl

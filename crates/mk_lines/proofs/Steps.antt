@@ -4,7 +4,7 @@ use Rattle.std.specs.Prelude.{cond, bytes_eq, ◌==◌}
 use Rattle.std.proofs.lemmas.Bool.{ltb-true, eqb-true, eq-eqb}
 use Rattle.std.proofs.lemmas.List.{nil_from_length}
 use Rattle.std.proofs.lemmas.Slice.Eq.{bytes_eq-Decides}
-use Rattle.mk_bundle.specs.Parsing.{◌>>=◌, after, whole, behind, or_else}
+use Rattle.mk_lines.specs.Parsing.{◌>>=◌, after, whole, behind, or_else}
 
 -- the value of a step that gave one
 pub bind_some : {A B : Type 0} (o : Option A) (f : A → Option B) (y : B) → (o >>= f) ≡ Some y → (x : A) × (o ≡ Some x) × (f x ≡ Some y)

@@ -9,10 +9,10 @@ use Rattle.mk_code.specs.declared.instr.Instr.TheVariants as instr
 use Rattle.mk_lines.specs.Words.{OperandFits, line, hex_byte, operand_word}
 use Rattle.mk_lines.specs.CertLines.{pair_words, mapped_words, op_line, OpFits}
 use Rattle.mk_lines.specs.CodeLines.{instr_line}
-use Rattle.mk_bundle.specs.Parsing.{◌>>=◌, after, behind, or_else, hex_of, number_of, numbers_of, operand_of, pair_of, mapped_of, public_op_of, single_op_of, pair_op_of, op_of, instr_of}
-use Rattle.mk_bundle.proofs.Steps.{bind_some, same_some, chosen, behind_found, or_found, is_word}
-use Rattle.mk_bundle.proofs.Numbers.{number_of_found, number_of_again}
-use Rattle.mk_bundle.proofs.Spelled.{hex_of_found, hex_of_again, operand_of_found, operand_of_again, pair_found, pair_again, mapped_found, mapped_again, number_words, numbers_found, numbers_again}
+use Rattle.mk_lines.specs.Parsing.{◌>>=◌, after, behind, or_else, hex_of, number_of, numbers_of, operand_of, pair_of, mapped_of, public_op_of, single_op_of, pair_op_of, op_of, instr_of}
+use Rattle.mk_lines.proofs.Steps.{bind_some, same_some, chosen, behind_found, or_found, is_word}
+use Rattle.mk_lines.proofs.Numbers.{number_of_found, number_of_again}
+use Rattle.mk_lines.proofs.Spelled.{hex_of_found, hex_of_again, operand_of_found, operand_of_again, pair_found, pair_again, mapped_found, mapped_again, number_words, numbers_found, numbers_again}
 
 -- what stands in the line of a block behind `block `
 abbrev pub op_words : Op → List ℕ

@@ -1,0 +1,6 @@
+pub mod Steps
+pub mod Numbers
+pub mod Loops
+pub mod Spelled
+pub mod Variants
+pub mod Feeds
