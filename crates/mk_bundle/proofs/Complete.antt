@@ -20,7 +20,8 @@ use Rattle.mk_lines.specs.Words.{OperandFits, line, hex_byte, operand_word, is_l
 use Rattle.mk_lines.specs.CertLines.{op_line, claim_line, OpFits}
 use Rattle.mk_lines.specs.CodeLines.{map_line, instr_line, place_word, out_line, out_lines, MapFits}
 use Rattle.mk_bundle.specs.Text.{field_line, number_line, head_lines, text}
-use Rattle.mk_bundle.specs.Pairs.{IsPair, AreLines}
+use Rattle.mk_lines.specs.Lines.{AreLines}
+use Rattle.mk_bundle.specs.Pairs.{IsPair}
 use Rattle.mk_bundle.specs.declared.draft.Stage.TheVariants.{Field, Order, Secrets, Publics, Upper, Lower, Ended}
 use Rattle.mk_lines.specs.Parsing.{◌>>=◌, after, places_of}
 use Rattle.mk_bundle.specs.Reading.{State, start, version_line, field_line_of, field_read, headed, order_read, secrets_read, publics_read, has_maps, may_map, map_read, may_block, block_read, claim_read, code_read, upper_read, fits_at, may_instr, instr_read, out_read, lower_read, read_at, line_read, lines_read}

@@ -9,7 +9,8 @@ use Rattle.mk_lines.specs.Words.{line, is_line}
 use Rattle.mk_lines.specs.CertLines.{op_line, claim_line}
 use Rattle.mk_lines.specs.CodeLines.{map_line, instr_line, out_lines}
 use Rattle.mk_bundle.specs.Text.{field_line, number_line, head_lines, text}
-use Rattle.mk_bundle.specs.Pairs.{IsPair, IsBundleText, AreLines, BeginsWith, GoesWellFor, NamesFirst, TextsDiffer}
+use Rattle.mk_lines.specs.Lines.{AreLines, BeginsWith, GoesWellFor, NamesFirst}
+use Rattle.mk_bundle.specs.Pairs.{IsPair, IsBundleText, TextsDiffer}
 use Rattle.mk_bundle.specs.declared.draft.Stage.{Stage}
 use Rattle.mk_bundle.specs.declared.draft.Stage.TheVariants.{Version, Field, Order, Secrets, Publics, Upper, Lower, Ended}
 use Rattle.mk_lines.specs.Parsing.{◌>>=◌}
@@ -165,20 +166,20 @@ pub number_small : (bytes rest : List ℕ) (number : ℕ) (st : State) → Progr
 number_small bytes rest number st so = omega (arith, so.count, few_lines so.lines, ap length so.parts, length-append (flat_map line so.lines) rest)
 
 -- as far as was read the text goes well
-goes_well : (lines : List (List ℕ)) (bytes rest : List ℕ) (st : State) → AreLines lines → bytes ≡ flat_map line lines ++ rest → lines_read start lines ≡ Some st → GoesWellFor (length lines) bytes
+goes_well : (lines : List (List ℕ)) (bytes rest : List ℕ) (st : State) → AreLines lines → bytes ≡ flat_map line lines ++ rest → lines_read start lines ≡ Some st → GoesWellFor IsBundleText (length lines) bytes
 goes_well lines bytes rest st clean parts e =
     let h = reached lines st e in
     let all = completes st.stage st.code st.cert in
     (lines, clean, refl, (rest, parts), (text st.code st.cert, (st.code, st.cert, h.0.pair, refl), (all.0, all.1 ∙ ap (λ (r : List ℕ). r ++ all.0) h.1)))
 
-goes_well_before : (lines : List (List ℕ)) (bytes rest : List ℕ) (st : State) (m : ℕ) → AreLines lines → bytes ≡ flat_map line lines ++ rest → lines_read start lines ≡ Some st → m ≤ length lines → GoesWellFor m bytes
+goes_well_before : (lines : List (List ℕ)) (bytes rest : List ℕ) (st : State) (m : ℕ) → AreLines lines → bytes ≡ flat_map line lines ++ rest → lines_read start lines ≡ Some st → m ≤ length lines → GoesWellFor IsBundleText m bytes
 goes_well_before lines bytes rest st m clean parts e le =
     let cut : take m lines ++ drop m lines ≡ lines = take-append-drop m lines in
     let a = bind_some (lines_read start (take m lines)) (λ (next : State). lines_read next (drop m lines)) st (sym (lines_read-append start (take m lines) (drop m lines)) ∙ ap (lines_read start) cut ∙ e) in
     let spelled : flat_map line lines ≡ flat_map line (take m lines) ++ flat_map line (drop m lines) = ap (flat_map line) (sym cut) ∙ flat_map-append line (take m lines) (drop m lines) in
     let here : bytes ≡ flat_map line (take m lines) ++ (flat_map line (drop m lines) ++ rest) =
     parts ∙ ap (λ (r : List ℕ). r ++ rest) spelled ∙ append_assoc (flat_map line (take m lines)) (flat_map line (drop m lines)) rest in
-    subst (λ (n : ℕ). GoesWellFor n bytes) (length-take-le m lines le)
+    subst (λ (n : ℕ). GoesWellFor IsBundleText n bytes) (length-take-le m lines le)
     (goes_well (take m lines) bytes (flat_map line (drop m lines) ++ rest) a.0 (All-front (λ l. is_line l ≡ true) (take m lines) (drop m lines) (subst AreLines (sym cut) clean)) here a.1)
 
 -- the lines that a bundle text begins with are read
@@ -189,7 +190,7 @@ read_front lines whole clean text_of begins =
     let a = bind_some (lines_read start lines) (λ (next : State). lines_read next h.0) (at Ended text_of.0 text_of.1) (sym (lines_read-append start lines h.0) ∙ ap (lines_read start) (sym h.1) ∙ runs.read) in
     (a.0, a.1)
 
-no_further : (bytes rest : List ℕ) (number : ℕ) (st : State) → Progress bytes rest number st → Stuck st rest → GoesWellFor number bytes → ⊥
+no_further : (bytes rest : List ℕ) (number : ℕ) (st : State) → Progress bytes rest number st → Stuck st rest → GoesWellFor IsBundleText number bytes → ⊥
 unfolding lines_read
 no_further bytes rest number st so stuck well =
     let lines = well.0 in
@@ -201,7 +202,7 @@ no_further bytes rest number st so stuck well =
     let never : ◌≡◌ {A = Option State} (Some front.0) None = sym front.1 ∙ read in
     absurd (cc)
 
-pub names : (bytes rest : List ℕ) (number : ℕ) (st : State) → Progress bytes rest number st → Stuck st rest → NamesFirst number bytes
+pub names : (bytes rest : List ℕ) (number : ℕ) (st : State) → Progress bytes rest number st → Stuck st rest → NamesFirst IsBundleText number bytes
 names bytes rest number st so stuck = (
   omega (arith, so.count),
   no_further bytes rest number st so stuck,

@@ -1,7 +1,8 @@
 ghost use Rattle.std.specs.Prelude.{◌≡◌, ◌≤◌, ℕ, Err, length, IfOk};
 ghost use Rattle.mk_bundle.specs.declared.read.BundleRefusal.TheVariants.{Form};
 ghost use Rattle.mk_bundle.specs.Text.{text as text_of};
-ghost use Rattle.mk_bundle.specs.Pairs.{IsPair, IsBundleText, NamesFirst, TextsDiffer};
+ghost use Rattle.mk_lines.specs.Lines.{NamesFirst};
+ghost use Rattle.mk_bundle.specs.Pairs.{IsPair, IsBundleText, TextsDiffer};
 
 use crate::draft::{LineRefusal, bundle_of, empty_draft, is_ended, read_line};
 use mk_lines::cut;
@@ -34,7 +35,7 @@ pub fn read_bundle(alloc: Global, text: &[u8]) -> Result<Bundle, BundleRefusal>
     ensures only { (line : ℕ) → result ≡ Err (Form line) → IsBundleText text.now → ⊥ }
 
     // The line is the first behind which no bundle text goes on.
-    ensures form { (line : ℕ) → result ≡ Err (Form line) → NamesFirst line text.now }
+    ensures form { (line : ℕ) → result ≡ Err (Form line) → NamesFirst IsBundleText line text.now }
 {
     let mut draft = empty_draft(alloc);
     let mut rest = text;

@@ -1,4 +1,5 @@
 pub mod Words
+pub mod Lines
 pub mod CertLines
 pub mod CodeLines
 pub mod Parsing

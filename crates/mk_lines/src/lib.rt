@@ -29,7 +29,9 @@ pub use words::{push_hex, push_operand};
 #[cfg(test)]
 mod tests {
     use super::*;
-    use mk_ssa::Operand;
+    use mk_code::Instr;
+    use mk_field::AddMap;
+    use mk_ssa::{Op, Operand};
     use std::alloc::AllocError;
 
     #[test]
@@ -45,6 +47,23 @@ mod tests {
             push_operand(&mut text, operand)?;
         }
         assert_eq!(rt; text.as_str(), "a7 s0 p10 b4294967295");
+        Ok(())
+    }
+
+    #[test]
+    fn lines_are_appended(rt: HostRuntime) -> Result<(), AllocError> {
+        let mut text = String::new(rt.alloc());
+        let images = [1, 2, 4, 8, 16, 32, 64, 128];
+        push_map(&mut text, AddMap { images })?;
+        let arg = Operand::Block(3);
+        push_op(&mut text, Op::Map { map: 7, arg })?;
+        push_claim(&mut text, Operand::Secret(1))?;
+        push_instr(&mut text, Instr::Map { map: 7, from: 10 })?;
+        push_out(&mut text, &[4, 15])?;
+        assert_eq!(rt;
+            text.as_str(),
+            "map 0102040810204080\nblock map 7 b3\nclaim s1\nmap 7 10\nout 4 15\n"
+        );
         Ok(())
     }
 }

@@ -7,7 +7,8 @@ use Rattle.mk_code.specs.Listing.{Listing}
 use Rattle.mk_rules.specs.Claimed.{Claimed}
 use Rattle.mk_check.proofs.Verdicts.{accepted-not_refused, refused-once}
 use Rattle.mk_bundle.specs.Text.{text}
-use Rattle.mk_bundle.specs.Pairs.{IsPair, IsBundleText, NamesFirst, TextsDiffer}
+use Rattle.mk_lines.specs.Lines.{NamesFirst}
+use Rattle.mk_bundle.specs.Pairs.{IsPair, IsBundleText, TextsDiffer}
 use Rattle.mk_top.specs.declared.fault.Fault.{Fault}
 use Rattle.mk_top.specs.declared.fault.Fault.TheVariants as fault
 use Rattle.mk_words.specs.declared.fault.SourceFault.{SourceFault}
@@ -137,7 +138,7 @@ eval-one : (publics secrets : List ℕ) (tree : Tree) (a b : Option Fault) → E
 eval-one publics secrets tree a b first second = first ∙ sym second
 
 -- the line that is named is one
-names-one : (bytes : List ℕ) (m n : ℕ) → NamesFirst m bytes → NamesFirst n bytes → m ≡ n
+names-one : (bytes : List ℕ) (m n : ℕ) → NamesFirst IsBundleText m bytes → NamesFirst IsBundleText n bytes → m ≡ n
 names-one bytes m n first second =
     elim (cases_lt m n) [
       | inl below ↦ absurd (first.1 (second.2 m below))
@@ -167,7 +168,7 @@ record Pair (decides : Listing → Claimed → Option Fault → Type 0) (bytes :
 
 -- a bundle text goes wrong at a line, or is that of a pair
 data Bundled (decides : Listing → Claimed → Option Fault → Type 0) (bytes : List ℕ) (answer : Option Fault) : Type 0 where
-  wrong : (line : ℕ) → answer ≡ Some (fault.Bundle line) → NamesFirst line bytes → (IsBundleText bytes → ⊥) → Bundled decides bytes answer
+  wrong : (line : ℕ) → answer ≡ Some (fault.Bundle line) → NamesFirst IsBundleText line bytes → (IsBundleText bytes → ⊥) → Bundled decides bytes answer
   paired : Pair decides bytes answer → Bundled decides bytes answer
 
 bundled : (decides : Listing → Claimed → Option Fault → Type 0) (bytes : List ℕ) (answer : Option Fault) → BundleDecides decides bytes answer → Bundled decides bytes answer

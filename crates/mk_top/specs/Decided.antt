@@ -7,7 +7,8 @@ use Rattle.mk_check.specs.declared.refusal.CheckRefusal.{CheckRefusal}
 use Rattle.mk_check.specs.declared.refusal.CheckRefusal.TheVariants as refused
 use Rattle.mk_check.specs.Verdict.{Refuses}
 use Rattle.mk_bundle.specs.Text.{text}
-use Rattle.mk_bundle.specs.Pairs.{IsPair, IsBundleText, NamesFirst}
+use Rattle.mk_lines.specs.Lines.{NamesFirst}
+use Rattle.mk_bundle.specs.Pairs.{IsPair, IsBundleText}
 use Rattle.mk_ast.specs.declared.tree.Program.{Program as Tree}
 use Rattle.mk_ast.specs.declared.refusal.SourceRefusal.TheVariants as refusal_
 use Rattle.mk_ast.specs.declared.refusal.Limit.TheVariants as limit_
@@ -63,7 +64,7 @@ CountDecides publics first second probes code cert answer = answer ≡ option_ma
 -- the answer that a bundle decides, by what a code and certificate decide: that of its own, or where it goes
 -- wrong as a text
 abbrev pub BundleDecides : (Listing → Claimed → Option Fault → Type 0) → List ℕ → Option Fault → Type 0
-BundleDecides decides bytes (Some (fault.Bundle line)) = NamesFirst line bytes × (IsBundleText bytes → ⊥)
+BundleDecides decides bytes (Some (fault.Bundle line)) = NamesFirst IsBundleText line bytes × (IsBundleText bytes → ⊥)
 BundleDecides decides bytes answer = (code : Listing) × (cert : Claimed) × IsPair code cert × (bytes ≡ text code cert) × decides code cert answer
 
 -- The answer that a source decides, by what a well typed tree decides: it spells none, and then its first

@@ -1,6 +1,7 @@
 -- Line after line; where one does not go on, it is the line that is named.
 use Rattle.std.proofs.Common.{◌≡◌, ℕ, [], true, sym, subst, arith}
-use Rattle.mk_bundle.specs.Pairs.{NamesFirst}
+use Rattle.mk_lines.specs.Lines.{NamesFirst}
+use Rattle.mk_bundle.specs.Pairs.{IsBundleText}
 use Rattle.mk_bundle.specs.Reading.{state_of}
 use Rattle.mk_lines.proofs.Steps.{some_bytes, no_bytes}
 use Rattle.mk_bundle.proofs.Naming.{Progress, begun, further, bounds, reached, number_small, names, no_text, whole_text, stuck_at, stuck_end, some_left, same_pair}
@@ -21,7 +22,7 @@ returns-in-Err-Form-clause-only c = λ line e. (
 pub returns-in-Err-Form-clause-form : goal.returns-in-Err-Form-clause-form
 returns-in-Err-Form-clause-form c = λ line e. (
     let same : c.loop-line.number ≡ line = cc in
-    subst (λ (n : ℕ). NamesFirst n c.args.text.now) same
+    subst (λ (n : ℕ). NamesFirst IsBundleText n c.args.text.now) same
     (names c.args.text.now c.loop-line.rest.now c.loop-line.number (state_of c.loop-line.draft) c.loop-line.invariant
     (stuck_at (state_of c.loop-line.draft) c.loop-line.rest.now c.in-Some.line.now c.in-Some.behind.now c.in-Some.ensures.0 c.in-Some.ensures.1 (rw c.in-Err-Form.field-0-is at c.in-Err-Form.ensures))))
 
@@ -41,7 +42,7 @@ returns-then-not-is_empty-clause-only c = λ line e. (
 pub returns-then-not-is_empty-clause-form : goal.returns-then-not-is_empty-clause-form
 returns-then-not-is_empty-clause-form c = λ line e. (
     let same : c.loop-line.number ≡ line = cc in
-    subst (λ (n : ℕ). NamesFirst n c.args.text.now) same
+    subst (λ (n : ℕ). NamesFirst IsBundleText n c.args.text.now) same
     (names c.args.text.now c.loop-line.rest.now c.loop-line.number (state_of c.loop-line.draft) c.loop-line.invariant (stuck_end (state_of c.loop-line.draft) c.loop-line.rest.now c.in_default.ensures)))
 
 pub returns-then-not-is_ended-clause-only : goal.returns-then-not-is_ended-clause-only
@@ -52,7 +53,7 @@ returns-then-not-is_ended-clause-only c = λ line e. (
 pub returns-then-not-is_ended-clause-form : goal.returns-then-not-is_ended-clause-form
 returns-then-not-is_ended-clause-form c = λ line e. (
     let same : c.loop-line.number ≡ line = cc in
-    subst (λ (n : ℕ). NamesFirst n c.args.text.now) same
+    subst (λ (n : ℕ). NamesFirst IsBundleText n c.args.text.now) same
     (names c.args.text.now c.loop-line.rest.now c.loop-line.number (state_of c.loop-line.draft) c.loop-line.invariant (stuck_end (state_of c.loop-line.draft) c.loop-line.rest.now c.in_default.ensures)))
 
 pub bundle_of-requires : goal.bundle_of-requires
