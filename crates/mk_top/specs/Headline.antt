@@ -1,5 +1,5 @@
 -- What the answer `Done` means, by the bytes that the input gave and the output took.
-use Rattle.std.specs.Prelude.{◌≡◌, ℕ, ◌+◌, List, ◌∷◌, ◌++◌, Option, Some, None, IfSome, length, codes, decimal, Bool, true, false, count_by, []}
+use Rattle.std.specs.Prelude.{◌≡◌, ℕ, List, ◌∷◌, ◌++◌, Option, Some, None, IfSome, length, codes, decimal, Bool, true, false, count_by, []}
 use Rattle.mk_base.specs.Streams.{TakesPrefix}
 use Rattle.mk_code.specs.Listing.{Listing}
 use Rattle.mk_code.specs.Private.{Private}
