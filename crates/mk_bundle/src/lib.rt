@@ -27,23 +27,3 @@ mod text;
 
 pub use read::{BundleRefusal, MOST_BYTES, read_bundle, texts_differ};
 pub use text::to_text;
-
-#[cfg(test)]
-mod tests {
-    use super::*;
-    use mk_base::Items;
-    use mk_code::CodeBuilder;
-    use mk_field::Gf256;
-    use mk_rules::Cert;
-
-    #[test]
-    fn writes_the_empty_pair(rt: HostRuntime) -> Result<(), mk_base::Memory> {
-        let alloc = rt.alloc();
-        let builder = CodeBuilder::<Gf256>::new(alloc, 1, 0, 0, Items::new(alloc));
-        let code = builder.finish(Items::new(alloc));
-        let bytes = to_text(alloc, &code, &Cert::new(alloc))?;
-        let wanted = b"mask 1\nfield gf256\norder 1\nsecrets 0\npublics 0\ncode\nend\n";
-        assert_eq!(rt; bytes.as_slice(), wanted.as_slice());
-        Ok(())
-    }
-}

@@ -63,6 +63,3 @@ pub fn read_bundle(alloc: Global, text: &[u8]) -> Result<Bundle, BundleRefusal>
 pub fn texts_differ()
     ensures { TextsDiffer }
 {}
-
-#[cfg(test)]
-mod tests;

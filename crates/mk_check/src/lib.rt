@@ -13,8 +13,6 @@ mod doubled;
 mod outputs;
 mod refusal;
 mod templates;
-#[cfg(test)]
-mod tests;
 mod tiles;
 mod wired;
 

@@ -58,6 +58,3 @@ pub fn compile(alloc: Global, p: &Typed, order: u8) -> Result<Bundle, SourceRefu
     let bundle = bundle_of(alloc, order, &values, cert)?;
     Ok(bundle)
 }
-
-#[cfg(test)]
-mod tests;

@@ -1,9 +1,6 @@
 -- What the product and the refresh cost, by the number of pairs.
-use Rattle.std.proofs.Common.{arith, ◌≡◌, ℕ, zero, suc, ◌-◌, ◌*◌, ◌/◌, ◌≤◌, length, ap}
-use Rattle.std.proofs.lemmas.Nat.{mul-le}
+use Rattle.std.proofs.Common.{arith, ◌≡◌, ℕ, zero, suc, ◌-◌, ◌*◌, ◌/◌, length, ap}
 use Rattle.mk_gadget.specs.Pairs.{pairs}
-use Rattle.mk_gadget.specs.Product.{product_gadget}
-use Rattle.mk_gadget.specs.Refresh.{refresh_gadget}
 use Rattle.mk_gadget.specs.CostLaw.{CostLaw}
 use Rattle.mk_gadget.proofs.Pairs.{twice-pairs}
 use Rattle.mk_gadget.proofs.RefreshRun.{length-refresh, randoms-refresh}
@@ -25,11 +22,3 @@ CostLaw-holds n = record {
   refresh = omega (arith, length-refresh n, count-pairs n);
   refresh_randoms = omega (arith, randoms-refresh n, count-pairs n);
 }
-
--- with nine shares at most these are few
-pub nine-product : (n : ℕ) → n ≤ 9 → length (product_gadget n).instrs ≤ 486
-nine-product n le = omega (arith, length-product n, twice-pairs n n (omega arith), mul-le n n 9 9 le le)
-
--- the refresh too
-pub nine-refresh : (n : ℕ) → n ≤ 9 → length (refresh_gadget n).instrs ≤ 486
-nine-refresh n le = omega (arith, length-refresh n, twice-pairs n n (omega arith), mul-le n n 9 9 le le)

@@ -2,7 +2,6 @@ pub mod AddTemplate
 pub mod Rows
 pub mod Emitting
 pub mod Values
-pub mod Lifted
 pub mod Placed
 pub mod Pairs
 pub mod Blocks

@@ -2,17 +2,9 @@
 //! a code in the making.
 #![tactic(auto)]
 
-#[cfg(test)]
-mod counted_tests;
 mod laws;
-#[cfg(test)]
-mod lifted_tests;
 mod linear;
-#[cfg(test)]
-mod linear_tests;
 mod strong;
-#[cfg(test)]
-mod strong_tests;
 
 pub use laws::{cost_law, placed_law, steady_law, strong_law};
 pub use linear::{emit_add, emit_add_public, emit_lift, emit_map, emit_scale_public, emit_sq};

@@ -52,6 +52,3 @@ fn push_line(text: &mut String, line: &str) -> Result<(), AllocError>
     text.push_str(line)?;
     text.push_str("\n")
 }
-
-#[cfg(test)]
-mod tests;

@@ -259,6 +259,3 @@ pub fn tokens(alloc: Global, text: &[u8]) -> Result<TokenList, SourceRefusal>
     }
     Ok(tokens)
 }
-
-#[cfg(test)]
-mod tests;

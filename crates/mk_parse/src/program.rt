@@ -76,6 +76,3 @@ pub fn parse(alloc: Global, text: &[u8]) -> Result<Program, SourceRefusal>
         Err(Stop::Memory) => Err(SourceRefusal::Memory),
     }
 }
-
-#[cfg(test)]
-mod tests;

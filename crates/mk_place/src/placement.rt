@@ -25,6 +25,3 @@ pub fn place(alloc: Global, s: &Ssa) -> Result<Cert, Memory>
     let fresh = marks(alloc, s)?;
     laid_out(alloc, s, fresh.as_slice())
 }
-
-#[cfg(test)]
-mod tests;

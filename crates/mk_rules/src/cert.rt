@@ -69,22 +69,3 @@ pub struct Bundle {
     pub code: Code,
     pub cert: Cert,
 }
-
-#[cfg(test)]
-mod tests {
-    use super::*;
-
-    #[test]
-    fn pushes_a_block_and_a_claim(rt: HostRuntime) -> Result<(), Memory> {
-        let sum = Op::Add {
-            left: Operand::Secret(0),
-            right: Operand::Secret(1),
-        };
-        let mut cert = Cert::new(rt.alloc());
-        cert.push_block(sum)?;
-        cert.push_claim(Operand::Block(0))?;
-        assert_eq!(rt; cert.blocks().as_slice(), [sum].as_slice());
-        assert_eq!(rt; cert.claims().as_slice(), [Operand::Block(0)].as_slice());
-        Ok(())
-    }
-}

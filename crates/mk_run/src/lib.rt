@@ -8,8 +8,6 @@ mod inputs;
 mod limits;
 mod masked;
 mod refusal;
-#[cfg(test)]
-mod run_tests;
 mod runner;
 mod running;
 mod seed;

@@ -76,6 +76,3 @@ fn first_offence(alloc: Global, p: &Program) -> Result<Option<Offence>, Memory>
     check_stmts(&mut scope, &mut found, p.body.as_slice())?;
     Ok(found.first())
 }
-
-#[cfg(test)]
-mod tests;

@@ -142,6 +142,3 @@ pub fn unroll(alloc: Global, p: &Typed, order: u8) -> Result<Ssa, SourceRefusal>
 {
     unroll_program(alloc, p.program(), order)
 }
-
-#[cfg(test)]
-mod tests;

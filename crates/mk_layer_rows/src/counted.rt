@@ -1,13 +1,12 @@
 //! Counts, over all tapes, of what observers of a product of bits see: equal for any two states that agree
 //! in the shares that an observer asks for.
-ghost use Rattle.std.specs.Prelude.{◌≡◌, ◌≤◌, ◌<◌, ◌+◌, ◌*◌, IfOk};
-ghost use Rattle.mk_code.specs.Counting.{Elements};
+ghost use Rattle.std.specs.Prelude.{◌<◌};
 
-use crate::strong_tests::product;
-use mk_base::Memory;
-use mk_code::{Code, Machine, Used};
-use mk_field::{FieldId, Gf2};
+use crate::sources::bundle_of;
+use mk_code::Code;
+use mk_run::run_code;
 use std::alloc::Global;
+use std::test::*;
 
 /// What an observed value belongs to. Shares are bits: 1, 2 and 4 are the shares 0, 1 and 2.
 #[derive(Clone, Copy)]
@@ -84,59 +83,39 @@ fn asked(first: Part, second: Part, shares: u32) -> usize
 }
 
 /// The lowest bits of a number, lowest first.
-fn bits_of(alloc: Global, number: u32, count: usize) -> Result<Vec<u8>, Memory>
-    ensures { IfOk result (λ bits. Elements 2 count bits.items) }
-{
-    let mut bits = Vec::new(alloc);
+fn bits_of<const N: usize>(number: u32) -> [u8; N] {
+    let mut bits = [0; N];
     let mut rest = number;
-    for _ in 0..count {
-        bits.push((rest % 2) as u8)?;
+    for place in 0..N {
+        bits[place] = (rest % 2) as u8;
         rest /= 2;
-    }
-    Ok(bits)
-}
-
-/// The entries of a run over the lowest bits of the tape: bit k is entry k.
-fn run_all(alloc: Global, code: &Code, shares: &[u8], tape: u32) -> Result<u32, Memory>
-    requires field { code.now.field ≡ FieldId.Gf2 }
-    requires publics { code.now.publics ≡ 0 }
-    requires shares { Elements 2 (code.now.secrets * (code.now.order + 1)) shares.now }
-{
-    let mut machine = Machine::new(alloc, code, &[], shares)?;
-    let mut rest = tape;
-    while !machine.done() {
-        if machine.step((rest % 2) as u8) == Used::Word {
-            rest /= 2;
-        }
-    }
-    Ok(packed(machine.trace()))
-}
-
-/// The entries as bits, the first lowest.
-fn packed(entries: &[u8]) -> u32 {
-    let mut bits = 0;
-    for entry in entries.iter().rev() {
-        bits = bits << 1 | *entry as u32;
     }
     bits
 }
 
-/// The runs of a product over the eight tapes of three bits, state by state.
-fn all_runs<const N: usize>(alloc: Global, states: u32) -> Result<Vec<[u32; 8]>, Memory>
-    requires least { 2 ≤ N }
-    requires most { N ≤ 9 }
-{
-    let (code, _) = product::<Gf2, N>(alloc)?;
+/// The entries of a run over the lowest bits of the tape: bit k is entry k.
+fn entries(alloc: Global, code: &Code, state: u32, tape: u32) -> Option<u32> {
+    let shares = bits_of::<6>(state);
+    let tape = bits_of::<3>(tape);
+    let trace = run_code(alloc, code, &[], &shares, &tape).ok()?;
+    let mut bits = 0;
+    for entry in trace.as_slice().iter().rev() {
+        bits = bits << 1 | *entry as u32;
+    }
+    Some(bits)
+}
+
+/// The runs of a code over the eight tapes of three bits, state by state.
+fn all_runs(alloc: Global, code: &Code) -> Option<Vec<[u32; 8]>> {
     let mut runs = Vec::new(alloc);
-    for state in 0..states {
-        let shares = bits_of(alloc, state, 2 * N)?;
+    for state in 0..64 {
         let mut tapes = [0; 8];
         for tape in 0..8 {
-            tapes[tape] = run_all(alloc, &code, &shares, tape as u32)?;
+            tapes[tape] = entries(alloc, code, state, tape as u32)?;
         }
-        runs.push(tapes)?;
+        runs.push(tapes).ok()?;
     }
-    Ok(runs)
+    Some(runs)
 }
 
 /// How many of the tapes show each two bits.
@@ -162,33 +141,6 @@ fn depends(runs: &[[u32; 8]], first: Seen, second: Seen, asked: usize) -> bool {
         }
     }
     true
-}
-
-#[test]
-fn each_place_of_a_product_of_two_shares(rt: HostRuntime) -> Result<(), Memory> {
-    let runs = all_runs::<2>(rt.alloc(), 16)?;
-    let places = [
-        row(4, 1),
-        pair(5, 1, 2),
-        pair(6, 1, 2),
-        pair(7, 2, 1),
-        row(8, 2),
-        row(9, 1),
-        row(10, 1),
-        row(11, 2),
-        row(12, 2),
-        output(10),
-        output(12),
-    ];
-    for one in &places {
-        assert_eq!(rt;
-            depends(&runs, *one, *one, asked(one.part, one.part, 2)),
-            true
-        );
-    }
-    // a cross product doesn't depend on nothing
-    assert_eq!(rt; depends(&runs, pair(5, 1, 2), pair(5, 1, 2), 0), false);
-    Ok(())
 }
 
 /// The places of a product of three shares, each with the shares that its row or pair has, and its outputs.
@@ -225,8 +177,10 @@ fn places_of_three_shares() -> [Seen; 27] {
 }
 
 #[test]
-fn each_two_places_of_a_product_of_three_shares(rt: HostRuntime) -> Result<(), Memory> {
-    let runs = all_runs::<3>(rt.alloc(), 64)?;
+fn each_two_places_of_a_product_of_three_shares(rt: HostRuntime) -> Result<(), Fail> {
+    let text = "field gf2; secret a; secret b; output y; y = a * b;";
+    let product = bundle_of(rt.alloc(), text).ok().ok_or("it is compiled")?;
+    let runs = all_runs(rt.alloc(), &product.code).ok_or("it runs")?;
     let places = places_of_three_shares();
     for first in &places {
         for second in &places {
@@ -234,9 +188,9 @@ fn each_two_places_of_a_product_of_three_shares(rt: HostRuntime) -> Result<(), M
             assert_eq!(rt; depends(&runs, *first, *second, asked), true);
         }
     }
-    assert_eq!(rt;
-        depends(&runs, row(16, 2), pair(17, 2, 4), 0b010_010),
-        false
-    );
+    // A cross product doesn't depend on nothing, nor on the shares of a row alone.
+    let pair = pair(17, 2, 4);
+    assert_eq!(rt; depends(&runs, pair, pair, 0), false);
+    assert_eq!(rt; depends(&runs, row(16, 2), pair, 0b010_010), false);
     Ok(())
 }

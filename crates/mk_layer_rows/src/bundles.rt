@@ -1,0 +1,116 @@
+//! Bundle texts: they are written as they were read, and the first wrong line is named.
+ghost use Rattle.std.specs.Prelude.{IfOk};
+ghost use Rattle.mk_bundle.specs.Pairs.{IsPair};
+
+use mk_base::Memory;
+use mk_bundle::{BundleRefusal, MOST_BYTES, read_bundle, to_text};
+use mk_rules::Bundle;
+use std::alloc::Global;
+use std::test::*;
+
+/// A block and an instruction of each kind.
+const KINDS: &str =
+    "mask 1\nfield gf256\norder 2\nsecrets 1\npublics 1\nmap 1f3e7cf8f1e3c78f\nblock const 63\nblock padd p0 b0\nblock pmul b0 b1\nblock psq b2\nblock pmap 0 b3\nblock lift b4\nblock add s0 b5\nblock addp b6 p0\nblock scale b7 b0\nblock sq b8\nblock map 0 b9\nblock mul b10 s0\nblock refresh b11\nclaim s0\nclaim b12\ncode\nrnd\nconst 0a\ncopy 3\nadd 0 4\nmul 1 5\nsq 2\nmap 0 9\nout 0 1 2\nout 10 9 8\nend\n";
+
+/// What is read of a text that isn't too long.
+fn read(alloc: Global, text: &str) -> Result<Bundle, BundleRefusal>
+    ensures { IfOk result (λ b. IsPair b.code b.cert) }
+{
+    if text.len() > MOST_BYTES {
+        return Err(BundleRefusal::Memory);
+    }
+    read_bundle(alloc, text.as_bytes())
+}
+
+#[test]
+fn texts_are_read_and_written_again(rt: HostRuntime) -> Result<(), Fail> {
+    let least = "mask 1\nfield gf2\norder 8\nsecrets 0\npublics 65536\ncode\nend\n";
+    let free =
+        "mask 1\nfield gf2\norder 1\nsecrets 1\npublics 0\nblock map 4294967295 b4294967295\nclaim p9\ncode\ncopy 0\nconst 01\nend\n";
+    let most = "mask 1\nfield gf2\norder 1\nsecrets 65536\npublics 0\ncode\nend\n";
+    for text in [KINDS, least, free, most] {
+        let bundle = read(rt.alloc(), text).ok().ok_or("the text is a bundle's")?;
+        let again = to_text(rt.alloc(), &bundle.code, &bundle.cert)
+            .ok()
+            .ok_or("there is memory")?;
+        assert!(rt; again.as_slice() == text.as_bytes());
+    }
+    Ok(())
+}
+
+/// The line that is named, or 0 where none is.
+fn named(alloc: Global, text: &str) -> u32 {
+    match read(alloc, text) {
+        Err(BundleRefusal::Form { line }) => line,
+        _ => 0,
+    }
+}
+
+#[test]
+fn wrong_lines_are_named(rt: HostRuntime) {
+    let cases = [
+        // A rest, lines behind the last, and a line twice.
+        ("mask 1\nfield gf2\norder 1\n", 4),
+        (
+            "mask 1\nfield gf2\norder 1\nsecrets 0\npublics 0\ncode\nend\n\n",
+            8,
+        ),
+        (
+            "mask 1\nfield gf2\norder 1\nsecrets 0\npublics 0\ncode\ncode\nend\n",
+            7,
+        ),
+        // Other line ends, spaces and letters.
+        ("mask 1\r\nfield gf2\r\n", 1),
+        ("mask 1 \n", 1),
+        (
+            "mask 1\nfield gf2\norder 1\nsecrets 0\npublics 0\ncode\nconst 0A\nend\n",
+            7,
+        ),
+        // Numbers that begin with 0, and such of more than 32 bits.
+        ("mask 1\nfield gf256\norder 01\n", 3),
+        (
+            "mask 1\nfield gf256\norder 1\nsecrets 0\npublics 4294967296\n",
+            5,
+        ),
+        (
+            "mask 1\nfield gf256\norder 1\nsecrets 0\npublics 0\nblock add s0 s01\n",
+            6,
+        ),
+        (
+            "mask 1\nfield gf256\norder 1\nsecrets 0\npublics 0\nblock pmap 4294967296 p0\n",
+            6,
+        ),
+        // An operand too few, and a map behind a block.
+        (
+            "mask 1\nfield gf256\norder 1\nsecrets 0\npublics 0\nblock add s0\n",
+            6,
+        ),
+        (
+            "mask 1\nfield gf256\norder 1\nsecrets 0\npublics 0\nblock const 00\nmap 0102040810204080\n",
+            7,
+        ),
+    ];
+    for (text, line) in cases {
+        assert_eq!(rt; named(rt.alloc(), text), line);
+    }
+}
+
+/// A text of so many maps.
+fn maps(alloc: Global, count: u32) -> Result<String, Memory> {
+    let mut text = String::new(alloc);
+    text.push_str("mask 1\nfield gf256\norder 1\nsecrets 1\npublics 0\n")?;
+    for _ in 0..count {
+        text.push_str("map 0102040810204080\n")?;
+    }
+    text.push_str("code\nend\n")?;
+    Ok(text)
+}
+
+#[test]
+fn maps_are_read_up_to_their_limit(rt: HostRuntime) -> Result<(), Memory> {
+    let most = maps(rt.alloc(), 32_768)?;
+    assert!(rt; read(rt.alloc(), most.as_str()).is_ok());
+    let more = maps(rt.alloc(), 32_769)?;
+    assert_eq!(rt; named(rt.alloc(), more.as_str()), 32_774);
+    Ok(())
+}
