@@ -1,9 +1,10 @@
--- What small lists of values stand for.
+-- What small lists of values stand for, and small operators say.
 use Rattle.std.proofs.Common.{◌≡◌, [], ◌∷◌, refl}
 use Rattle.mk_field.specs.declared.field.FieldId.TheVariants.{Gf2, Gf256}
 use Rattle.mk_field.specs.Field.{sum_bits}
 use Rattle.mk_ssa.specs.declared.Operand.TheVariants.{Secret, Public, Block}
-use Rattle.mk_ssa.specs.declared.Op.TheVariants.{Const, PubAdd, Lift, Add, Scale, Map, Mul}
+use Rattle.mk_ssa.specs.declared.Op.TheVariants.{Const, PubAdd, Lift, Add, AddPub, Scale, Map, Mul}
+use Rattle.mk_ssa.specs.Operators.{operands, operator_word, with_operands}
 use Rattle.mk_ssa.specs.Values.{Values}
 use Rattle.mk_ssa.specs.Denoted.{in_order, denoted}
 
@@ -31,3 +32,15 @@ of_bytes = record {
 pub of_bytes-57-83 : denoted of_bytes (0x13 ∷ []) (0x57 ∷ 0x83 ∷ []) ≡ 0xc1 ∷ 0xfe ∷ 0xae ∷ 0x00 ∷ 0x83 ∷ []
 unfolding in_order sum_bits
 of_bytes-57-83 = refl
+
+-- a public multiple whose operands are both replaced by the secret 7
+pub scaled-with : with_operands (λ v. Secret 7) (Scale (Secret 0) (Block 1)) ≡ Scale (Secret 7) (Secret 7)
+scaled-with = refl
+
+-- the operands of a sum of a shared value and a public one, the shared one first
+pub sum-operands : operands (AddPub (Secret 0) (Public 1)) ≡ Secret 0 ∷ Public 1 ∷ []
+sum-operands = refl
+
+-- the sum of a shared value and a public one has the word "addp"
+pub sum-word : operator_word (AddPub (Secret 0) (Public 1)) ≡ 0x61 ∷ 0x64 ∷ 0x64 ∷ 0x70 ∷ []
+sum-word = refl

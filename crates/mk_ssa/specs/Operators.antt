@@ -1,5 +1,5 @@
 -- Operators apart from their operands.
-use Rattle.std.specs.Prelude.{ℕ, List, ◌++◌}
+use Rattle.std.specs.Prelude.{ℕ, List, ◌++◌, codes}
 use Rattle.mk_ssa.specs.declared.Operand.{Operand}
 use Rattle.mk_ssa.specs.declared.Op.{Op}
 use Rattle.mk_ssa.specs.declared.Op.TheVariants as op
@@ -40,3 +40,35 @@ operator (op.Refresh arg) = Operator.Refresh
 -- the operands of a value, in order: where some are shared and some public, the shared ones stand first
 abbrev pub operands : Op → List Operand
 operands x = shared_operands x ++ public_operands x
+
+-- an operator over other operands
+abbrev pub with_operands : (Operand → Operand) → Op → Op
+with_operands f (op.Const value) = op.Const value
+with_operands f (op.PubAdd left right) = op.PubAdd (f left) (f right)
+with_operands f (op.PubMul left right) = op.PubMul (f left) (f right)
+with_operands f (op.PubSq arg) = op.PubSq (f arg)
+with_operands f (op.PubMap map arg) = op.PubMap map (f arg)
+with_operands f (op.Lift arg) = op.Lift (f arg)
+with_operands f (op.Add left right) = op.Add (f left) (f right)
+with_operands f (op.AddPub left right) = op.AddPub (f left) (f right)
+with_operands f (op.Scale left right) = op.Scale (f left) (f right)
+with_operands f (op.Sq arg) = op.Sq (f arg)
+with_operands f (op.Map map arg) = op.Map map (f arg)
+with_operands f (op.Mul left right) = op.Mul (f left) (f right)
+with_operands f (op.Refresh arg) = op.Refresh (f arg)
+
+-- the word that stands for an operator in texts
+abbrev pub operator_word : Op → List ℕ
+operator_word (op.Const value) = codes "const"
+operator_word (op.PubAdd left right) = codes "padd"
+operator_word (op.PubMul left right) = codes "pmul"
+operator_word (op.PubSq arg) = codes "psq"
+operator_word (op.PubMap map arg) = codes "pmap"
+operator_word (op.Lift arg) = codes "lift"
+operator_word (op.Add left right) = codes "add"
+operator_word (op.AddPub left right) = codes "addp"
+operator_word (op.Scale left right) = codes "scale"
+operator_word (op.Sq arg) = codes "sq"
+operator_word (op.Map map arg) = codes "map"
+operator_word (op.Mul left right) = codes "mul"
+operator_word (op.Refresh arg) = codes "refresh"

@@ -10,6 +10,7 @@ use mk_field::AddMap;
 
 mod builder;
 mod evaluation;
+mod operators;
 mod values;
 
 pub use builder::SsaBuilder;
