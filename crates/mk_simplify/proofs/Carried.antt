@@ -8,11 +8,11 @@ use Rattle.mk_ssa.specs.declared.Op.TheVariants.{Const}
 use Rattle.mk_ssa.specs.declared.Operand.{Operand}
 use Rattle.mk_ssa.specs.declared.Operand.TheVariants.{Secret, Public, Block}
 use Rattle.mk_ssa.specs.Kinds.{is_public}
-use Rattle.mk_ssa.specs.Operators.{operands}
+use Rattle.mk_ssa.specs.Operators.{operands, with_operands}
 use Rattle.mk_ssa.specs.Values.{Draft, IsDraft, IsSharedThere, IsPublicThere, Fits, front}
 use Rattle.mk_ssa.proofs.Lists.{IsSomeAnd-value, IsSomeAnd-from, slice_get-at, slice_get-front}
 use Rattle.mk_simplify.specs.Trees.{tree_of}
-use Rattle.mk_simplify.specs.Renumbering.{renumbered, with_operands, OnValue, IsBelow, AreEarlier, AreCarried}
+use Rattle.mk_simplify.specs.Renumbering.{renumbered, OnValue, IsBelow, AreEarlier, AreCarried}
 use Rattle.mk_simplify.proofs.Operators.{Fits-with, operands-there, is_public-with}
 use Rattle.mk_simplify.proofs.Trees.{AllByRecursion-weaker, tree_by-same, tree_by-with, tree_of-at, with_operands-same}
 

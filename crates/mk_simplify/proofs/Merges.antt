@@ -9,7 +9,7 @@ use Rattle.mk_ssa.specs.declared.Op.{Op}
 use Rattle.mk_ssa.specs.declared.Op.TheVariants.{Const}
 use Rattle.mk_ssa.specs.declared.Operand.{Operand}
 use Rattle.mk_ssa.specs.declared.Operand.TheVariants.{Secret, Public, Block}
-use Rattle.mk_ssa.specs.Operators.{operands}
+use Rattle.mk_ssa.specs.Operators.{operands, with_operands}
 use Rattle.mk_ssa.specs.Values.{Draft, IsDraft, Fits, HasMapsOnlyInBytes, front, pushed}
 use Rattle.mk_ssa.specs.Denoted.{in_order}
 use Rattle.mk_ssa.proofs.Lists.{slice_get-at, slice_get-more, slice_get-last, slice_get-cases, slice_get-front, take-take-below}
@@ -17,7 +17,7 @@ use Rattle.mk_ssa.proofs.There.{IsDraft-pushed}
 use Rattle.mk_ssa.proofs.InOrder.{in_order-push}
 use Rattle.mk_simplify.specs.Trees.{Tree, tree_by, next_tree, trees, tree_of}
 use Rattle.mk_simplify.specs.Simplified.{AreKept}
-use Rattle.mk_simplify.specs.Renumbering.{renumbered, with_operands, OnValue, IsBelow, AreEarlier, AreCarried, IsMerged}
+use Rattle.mk_simplify.specs.Renumbering.{renumbered, OnValue, IsBelow, AreEarlier, AreCarried, IsMerged}
 use Rattle.mk_simplify.proofs.Operators.{operands-there}
 use Rattle.mk_simplify.proofs.Trees.{tree_by-same, tree_by-with, tree_of-at, length-trees, AllByRecursion-weaker}
 use Rattle.mk_simplify.proofs.Carried.{AllByRecursion-of_all, shared-within, public-within, made-earlier, carried-operand, carried-fits, with_operands-more}

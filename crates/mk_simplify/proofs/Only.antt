@@ -1,14 +1,10 @@
 -- Values are simplified in one way only.
-use Rattle.std.proofs.Common.{◌≡◌, ℕ, zero, suc, ◌+◌, ◌≤◌, ◌<◌, List, [], ◌∷◌, ◌++◌, ◌⊎◌, inl, inr, All, map, length, slice_get, get_or, Some, refl, sym, ◌∙◌, ap, subst, arith}
-use Rattle.std.specs.List.{AllByRecursion}
-use Rattle.std.proofs.lemmas.Option.{slice_get-get_or}
+use Rattle.std.proofs.Common.{◌≡◌, ℕ, suc, ◌<◌, List, [], ◌∷◌, ◌++◌, inl, inr, All, map, length, slice_get, Some, refl, sym, ◌∙◌, ap, subst, arith}
 use Rattle.mk_field.specs.declared.field.FieldId.{FieldId}
 use Rattle.mk_field.specs.declared.map.AddMap.{AddMap}
 use Rattle.mk_ssa.specs.declared.Op.{Op}
-use Rattle.mk_ssa.specs.declared.Op.TheVariants.{Const}
 use Rattle.mk_ssa.specs.declared.Operand.{Operand}
 use Rattle.mk_ssa.specs.declared.Operand.TheVariants.{Block}
-use Rattle.mk_ssa.specs.Operators.{operands}
 use Rattle.mk_ssa.specs.Values.{Values, IsValues, draft}
 use Rattle.mk_ssa.proofs.Lists.{slice_get-at}
 use Rattle.mk_simplify.specs.Trees.{Tree, operand_tree, tree_by, trees, tree_of}

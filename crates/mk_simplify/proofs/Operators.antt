@@ -8,9 +8,8 @@ use Rattle.mk_ssa.specs.declared.Op.TheVariants.{Const, PubAdd, PubMul, PubSq, P
 use Rattle.mk_ssa.specs.declared.Operand.{Operand}
 use Rattle.mk_ssa.specs.declared.Operand.TheVariants.{Secret}
 use Rattle.mk_ssa.specs.Kinds.{is_public}
-use Rattle.mk_ssa.specs.Operators.{Operator, operator, operands}
+use Rattle.mk_ssa.specs.Operators.{Operator, operator, operands, with_operands}
 use Rattle.mk_ssa.specs.Values.{Draft, IsSharedThere, IsPublicThere, Fits}
-use Rattle.mk_simplify.specs.Renumbering.{with_operands}
 
 -- an operator has at most two operands
 pub operands-few : (x : Op) → length (operands x) ≤ 2

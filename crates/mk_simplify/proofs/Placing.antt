@@ -7,13 +7,13 @@ use Rattle.std.proofs.Math.Seq.{get_or-append_seam}
 use Rattle.mk_ssa.specs.declared.Op.{Op}
 use Rattle.mk_ssa.specs.declared.Operand.{Operand}
 use Rattle.mk_ssa.specs.declared.Operand.TheVariants.{Secret, Public, Block}
-use Rattle.mk_ssa.specs.Operators.{operands}
+use Rattle.mk_ssa.specs.Operators.{operands, with_operands}
 use Rattle.mk_ssa.specs.Values.{Draft, IsDraft, Fits, front, pushed}
 use Rattle.mk_ssa.proofs.There.{IsDraft-pushed}
 use Rattle.mk_ssa.specs.Denoted.{in_order}
 use Rattle.mk_ssa.proofs.Lists.{slice_get-at, slice_get-more, slice_get-last, slice_get-front}
 use Rattle.mk_simplify.specs.Trees.{Tree, tree_by, trees, tree_of}
-use Rattle.mk_simplify.specs.Renumbering.{renumbered, with_operands, OnValue, IsBelow, AreEarlier, IsMarked, AreClosed, marked, ArePlaced}
+use Rattle.mk_simplify.specs.Renumbering.{renumbered, OnValue, IsBelow, AreEarlier, IsMarked, AreClosed, marked, ArePlaced}
 use Rattle.mk_simplify.proofs.Trees.{tree_by-same, tree_by-with, tree_of-at, AllByRecursion-weaker}
 use Rattle.mk_simplify.proofs.Carried.{AllByRecursion-both, made-earlier, carried-operand, carried-fits, with_operands-more}
 use Rattle.mk_simplify.proofs.Different.{true-not_false}

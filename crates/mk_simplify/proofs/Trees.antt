@@ -4,11 +4,11 @@ use Rattle.std.specs.List.{AllByRecursion}
 use Rattle.mk_ssa.specs.declared.Op.{Op}
 use Rattle.mk_ssa.specs.declared.Operand.{Operand}
 use Rattle.mk_ssa.specs.declared.Operand.TheVariants.{Secret, Public, Block}
-use Rattle.mk_ssa.specs.Operators.{Operator, operator, operands}
+use Rattle.mk_ssa.specs.Operators.{Operator, operator, operands, with_operands}
 use Rattle.mk_ssa.proofs.Lists.{slice_get-at}
 use Rattle.mk_ssa.proofs.InOrder.{length-in_order, in_order-at, in_order-take}
 use Rattle.mk_simplify.specs.Trees.{Tree, over, tree_by, operand_tree, next_tree, trees, tree_of}
-use Rattle.mk_simplify.specs.Renumbering.{IsBelow, AreEarlier, with_operands}
+use Rattle.mk_simplify.specs.Renumbering.{IsBelow, AreEarlier}
 use Rattle.mk_simplify.proofs.Operators.{operands-few, operator-with, operands-with, same-op}
 
 -- the operator at the root of a tree

@@ -4,8 +4,7 @@ use Rattle.std.specs.List.{AllByRecursion}
 use Rattle.mk_ssa.specs.declared.Operand.{Operand}
 use Rattle.mk_ssa.specs.declared.Operand.TheVariants.{Secret, Public, Block}
 use Rattle.mk_ssa.specs.declared.Op.{Op}
-use Rattle.mk_ssa.specs.declared.Op.TheVariants.{Const, PubAdd, PubMul, PubSq, PubMap, Lift, Add, AddPub, Scale, Sq, Map, Mul, Refresh}
-use Rattle.mk_ssa.specs.Operators.{operands}
+use Rattle.mk_ssa.specs.Operators.{operands, with_operands}
 use Rattle.mk_ssa.specs.Values.{Draft, IsDraft}
 use Rattle.mk_simplify.specs.Trees.{Tree, trees, tree_of, parts}
 use Rattle.mk_simplify.specs.Simplified.{AreKept}
@@ -15,22 +14,6 @@ abbrev pub renumbered : List ℕ → Operand → Operand
 renumbered numbers (Secret k) = Secret k
 renumbered numbers (Public k) = Public k
 renumbered numbers (Block k) = Block (slice_index numbers k)
-
--- an operator over other operands
-abbrev pub with_operands : (Operand → Operand) → Op → Op
-with_operands f (Const value) = Const value
-with_operands f (PubAdd left right) = PubAdd (f left) (f right)
-with_operands f (PubMul left right) = PubMul (f left) (f right)
-with_operands f (PubSq arg) = PubSq (f arg)
-with_operands f (PubMap map arg) = PubMap map (f arg)
-with_operands f (Lift arg) = Lift (f arg)
-with_operands f (Add left right) = Add (f left) (f right)
-with_operands f (AddPub left right) = AddPub (f left) (f right)
-with_operands f (Scale left right) = Scale (f left) (f right)
-with_operands f (Sq arg) = Sq (f arg)
-with_operands f (Map map arg) = Map map (f arg)
-with_operands f (Mul left right) = Mul (f left) (f right)
-with_operands f (Refresh arg) = Refresh (f arg)
 
 -- an input, or a value for whose number the test holds
 abbrev pub OnValue : (ℕ → Type 0) → Operand → Type 0

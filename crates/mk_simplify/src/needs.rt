@@ -24,23 +24,12 @@ fn mark_operands(marks: &mut Vec<bool>, op: Op)
     requires { AllByRecursion (IsBelow (length marks.old.items)) (operands op) }
     ensures { marks.new.items ≡ fold with_mark marks.old.items (operands op) }
 {
-    match op {
-        Op::Const { .. } => {}
-        Op::PubSq { arg }
-        | Op::PubMap { arg, .. }
-        | Op::Lift { arg }
-        | Op::Sq { arg }
-        | Op::Map { arg, .. }
-        | Op::Refresh { arg } => mark(marks, arg),
-        Op::PubAdd { left, right }
-        | Op::PubMul { left, right }
-        | Op::Add { left, right }
-        | Op::AddPub { left, right }
-        | Op::Scale { left, right }
-        | Op::Mul { left, right } => {
-            mark(marks, left);
-            mark(marks, right);
-        }
+    let (left, right) = op.operands();
+    if let Some(left) = left {
+        mark(marks, left);
+    }
+    if let Some(right) = right {
+        mark(marks, right);
     }
 }
 

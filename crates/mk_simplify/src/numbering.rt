@@ -2,8 +2,8 @@
 
 ghost use Rattle.std.specs.Prelude.{◌≡◌, length};
 ghost use Rattle.std.specs.List.{AllByRecursion};
-ghost use Rattle.mk_ssa.specs.Operators.{operands};
-ghost use Rattle.mk_simplify.specs.Renumbering.{IsBelow, renumbered as renumbered_by, with_operands};
+ghost use Rattle.mk_ssa.specs.Operators.{operands, with_operands};
+ghost use Rattle.mk_simplify.specs.Renumbering.{IsBelow, renumbered as renumbered_by};
 
 use mk_ssa::{Op, Operand};
 
@@ -23,51 +23,5 @@ pub(crate) fn with_renumbered(op: Op, numbers: &[u32]) -> Op
     requires { AllByRecursion (IsBelow (length numbers.now)) (operands op) }
     ensures { result ≡ with_operands (renumbered_by numbers.now) op }
 {
-    match op {
-        Op::Const { value } => Op::Const { value },
-        Op::PubAdd { left, right } => Op::PubAdd {
-            left: renumbered(left, numbers),
-            right: renumbered(right, numbers),
-        },
-        Op::PubMul { left, right } => Op::PubMul {
-            left: renumbered(left, numbers),
-            right: renumbered(right, numbers),
-        },
-        Op::PubSq { arg } => Op::PubSq {
-            arg: renumbered(arg, numbers),
-        },
-        Op::PubMap { map, arg } => Op::PubMap {
-            map,
-            arg: renumbered(arg, numbers),
-        },
-        Op::Lift { arg } => Op::Lift {
-            arg: renumbered(arg, numbers),
-        },
-        Op::Add { left, right } => Op::Add {
-            left: renumbered(left, numbers),
-            right: renumbered(right, numbers),
-        },
-        Op::AddPub { left, right } => Op::AddPub {
-            left: renumbered(left, numbers),
-            right: renumbered(right, numbers),
-        },
-        Op::Scale { left, right } => Op::Scale {
-            left: renumbered(left, numbers),
-            right: renumbered(right, numbers),
-        },
-        Op::Sq { arg } => Op::Sq {
-            arg: renumbered(arg, numbers),
-        },
-        Op::Map { map, arg } => Op::Map {
-            map,
-            arg: renumbered(arg, numbers),
-        },
-        Op::Mul { left, right } => Op::Mul {
-            left: renumbered(left, numbers),
-            right: renumbered(right, numbers),
-        },
-        Op::Refresh { arg } => Op::Refresh {
-            arg: renumbered(arg, numbers),
-        },
-    }
+    op.with_operands(|operand| renumbered(operand, numbers))
 }

@@ -6,9 +6,9 @@ use Rattle.std.proofs.lemmas.Option.{slice_get-get_or}
 use Rattle.mk_ssa.specs.declared.Op.{Op}
 use Rattle.mk_ssa.specs.declared.Op.TheVariants.{Const}
 use Rattle.mk_ssa.specs.contracts.OpPartialEq.TheImpl as op_eq
-use Rattle.mk_ssa.specs.Operators.{operands}
+use Rattle.mk_ssa.specs.Operators.{operands, with_operands}
 use Rattle.mk_ssa.specs.Values.{draft, front}
-use Rattle.mk_simplify.specs.Renumbering.{IsMerged, IsBelow, renumbered, with_operands}
+use Rattle.mk_simplify.specs.Renumbering.{IsMerged, IsBelow, renumbered}
 use Rattle.mk_simplify.proofs.Merges.{IsMerged-push, IsMerged-new, IsFound, front-made, fits-within}
 use Rattle.mk_simplify.proofs.Found.{found-by}
 use Rattle.mk_simplify.proofs.Equal.{op-sound, op-same}

@@ -4,7 +4,8 @@ use Rattle.std.proofs.lemmas.List.{length-append}
 use Rattle.std.proofs.lemmas.Option.{slice_get-get_or}
 use Rattle.mk_ssa.specs.declared.Op.TheVariants.{Const}
 use Rattle.mk_ssa.specs.Values.{Draft, pushed}
-use Rattle.mk_simplify.specs.Renumbering.{IsMarked, renumbered, with_operands}
+use Rattle.mk_ssa.specs.Operators.{with_operands}
+use Rattle.mk_simplify.specs.Renumbering.{IsMarked, renumbered}
 use Rattle.mk_simplify.proofs.Carried.{made-earlier}
 use Rattle.mk_simplify.proofs.Marks.{operands-within}
 use Rattle.mk_simplify.proofs.Placing.{ArePlaced-new, keeping-fits, keeping-marked, keeping-passed, IsDraft-empty}
