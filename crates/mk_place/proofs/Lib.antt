@@ -12,6 +12,7 @@ mod Placing
 pub mod Blocks
 pub mod Fitting
 mod Differing
+mod Fitted
 pub mod Using
 mod Hops
 mod Reaching

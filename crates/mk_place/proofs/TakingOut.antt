@@ -15,6 +15,7 @@ use Rattle.mk_ssa.specs.Kinds.{is_public, shared_operands, public_operands}
 use Rattle.mk_ssa.specs.Values as ssa
 use Rattle.mk_ssa.specs.Values.{Values, Draft, draft, IsValues, Fits}
 use Rattle.mk_ssa.proofs.Lists.{IsSomeAnd-value, slice_get-front}
+use Rattle.mk_ssa.specs.Operators as operators
 use Rattle.mk_simplify.specs.Renumbering as renumbering
 use Rattle.mk_simplify.proofs.Operators.{operator-with, operands-with, operands-few, same-op}
 use Rattle.mk_rules.specs.Claimed.{Claimed}
@@ -262,13 +263,13 @@ module _ (marks : Marks) (s : Values) (is : IsValues s) where
     ]
 
     -- and so does the value
-    value-back : renumbering.with_operands (new_operand blocks) (with_operands (refreshed marks i) (renamed marks) op) ≡ op
+    value-back : operators.with_operands (new_operand blocks) (with_operands (refreshed marks i) (renamed marks) op) ≡ op
     value-back =
         let f : Operand → Operand = new_operand blocks in
         let own : Op = with_operands (refreshed marks i) (renamed marks) op in
         let short : length (shared_operands op) ≤ 2 =
         omega (arith, length-append (shared_operands op) (public_operands op), operands-few op) in
-        same-op (renumbering.with_operands f own) op (operator-with f own ∙ operator-laid (refreshed marks i) (renamed marks) op)
+        same-op (operators.with_operands f own) op (operator-with f own ∙ operator-laid (refreshed marks i) (renamed marks) op)
         (operands-with f own ∙ map-append f (shared_operands own) (public_operands own)
         ∙ ap₂ (λ (xs ys : List Operand). xs ++ ys)
         (ap (map f) (shared-laid (refreshed marks i) (renamed marks) op)
@@ -282,7 +283,7 @@ module _ (marks : Marks) (s : Values) (is : IsValues s) where
 
   -- all values come back
   values-back : (i : ℕ) (ops : List Op) → ((k : ℕ) (op : Op) → slice_get ops k ≡ Some op → slice_get s.values (i + k) ≡ Some op)
-      → map (renumbering.with_operands (new_operand blocks)) (owns marks i ops) ≡ ops
+      → map (operators.with_operands (new_operand blocks)) (owns marks i ops) ≡ ops
   values-back i [] there = refl
   values-back i (op ∷ ops) there =
       let here : i + 0 ≡ i = omega arith in
@@ -306,7 +307,7 @@ module _ (marks : Marks) (s : Values) (is : IsValues s) where
   pub laid-without : without_refreshes (laid_out marks s) ≡ cert_of s.values s.outs
   laid-without =
       ap₂ cert_of
-      (ap (map (renumbering.with_operands (new_operand blocks))) (filter-from marks 0 s.values (values-plain s is))
+      (ap (map (operators.with_operands (new_operand blocks))) (filter-from marks 0 s.values (values-plain s is))
       ∙ values-back 0 s.values (λ k op at.
       let same : k ≡ 0 + k = omega arith in
       ap (slice_get s.values) (sym same) ∙ at))

@@ -5,7 +5,7 @@ use Rattle.mk_ssa.specs.declared.Operand.{Operand}
 use Rattle.mk_ssa.specs.declared.Operand.TheVariants.{Secret, Public, Block}
 use Rattle.mk_ssa.specs.declared.Op.{Op}
 use Rattle.mk_ssa.specs.declared.Op.TheVariants.{Refresh}
-use Rattle.mk_simplify.specs.Renumbering.{with_operands}
+use Rattle.mk_ssa.specs.Operators.{with_operands}
 use Rattle.mk_rules.specs.Claimed.{Claimed}
 
 -- whether a block is no refresh

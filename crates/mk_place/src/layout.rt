@@ -7,7 +7,6 @@ ghost use Rattle.mk_place.specs.Marking.{AreMarks, all_marks};
 ghost use Rattle.mk_place.specs.Laying.{named, HasName, HasNames, argument, refreshes, pick, with_refreshes, own_of, IsLaid};
 
 use crate::marking::Fresh;
-use crate::operands::shared;
 use mk_base::{Items, Memory};
 use mk_rules::Cert;
 use mk_ssa::{Op, Operand, Ssa};
@@ -56,46 +55,8 @@ fn fitted(names: &[u32], op: Op, first: Operand, second: Operand) -> Op
     requires { HasNames names.now op }
     ensures { result ≡ with_operands (pick first second) (named names.now) op }
 {
-    match op {
-        Op::Const { value } => Op::Const { value },
-        Op::PubAdd { left, right } => Op::PubAdd {
-            left: renamed(names, left),
-            right: renamed(names, right),
-        },
-        Op::PubMul { left, right } => Op::PubMul {
-            left: renamed(names, left),
-            right: renamed(names, right),
-        },
-        Op::PubSq { arg } => Op::PubSq {
-            arg: renamed(names, arg),
-        },
-        Op::PubMap { map, arg } => Op::PubMap {
-            map,
-            arg: renamed(names, arg),
-        },
-        Op::Lift { arg } => Op::Lift {
-            arg: renamed(names, arg),
-        },
-        Op::Add { .. } => Op::Add {
-            left: first,
-            right: second,
-        },
-        Op::AddPub { right, .. } => Op::AddPub {
-            left: first,
-            right: renamed(names, right),
-        },
-        Op::Scale { right, .. } => Op::Scale {
-            left: first,
-            right: renamed(names, right),
-        },
-        Op::Sq { .. } => Op::Sq { arg: first },
-        Op::Map { map, .. } => Op::Map { map, arg: first },
-        Op::Mul { .. } => Op::Mul {
-            left: first,
-            right: second,
-        },
-        Op::Refresh { .. } => Op::Refresh { arg: first },
-    }
+    op.with_operands(|operand| renamed(names, operand))
+        .with_shared_operands(first, second)
 }
 
 /// Appends the refreshes for the next value, and then itself.
@@ -105,7 +66,7 @@ fn push(cert: &mut Cert, names: &mut Items<u32>, op: Op, fresh: Fresh) -> Result
     ensures claims { OnOk result (cert.new.claims ≡ cert.old.claims) }
     ensures names { OnOk result (names.new ≡ names.old ++ length (with_refreshes names.old cert.old.blocks op fresh) ∷ []) }
 {
-    let (left, right) = shared(op);
+    let (left, right) = op.shared_operands();
     let first = refreshed(cert, names.as_slice(), left, fresh.first)?;
     let second = refreshed(cert, names.as_slice(), right, fresh.second)?;
     let own = cert.blocks().len() as u32;

@@ -1,30 +1,11 @@
-//! The shared operands of a value, and the numbers of operands.
+//! The numbers of operands.
 
 ghost use Rattle.std.specs.Prelude.{◌≡◌, slice_get};
-ghost use Rattle.mk_ssa.specs.Kinds.{shared_operands};
 ghost use Rattle.mk_rules.specs.Tiles.{value_number};
 ghost use Rattle.mk_place.specs.Uses.{plain};
 ghost use Rattle.mk_place.specs.Marking.{shared_numbers};
 
 use mk_ssa::{Op, Operand, Ssa};
-
-/// The first and the second shared operand of an operator.
-pub(crate) fn shared(op: Op) -> (Option<Operand>, Option<Operand>)
-    ensures first { result.0 ≡ slice_get (shared_operands op) 0 }
-    ensures second { result.1 ≡ slice_get (shared_operands op) 1 }
-{
-    match op {
-        Op::Const { .. }
-        | Op::PubAdd { .. }
-        | Op::PubMul { .. }
-        | Op::PubSq { .. }
-        | Op::PubMap { .. }
-        | Op::Lift { .. } => (None, None),
-        Op::AddPub { left, .. } | Op::Scale { left, .. } => (Some(left), None),
-        Op::Sq { arg } | Op::Map { arg, .. } | Op::Refresh { arg } => (Some(arg), None),
-        Op::Add { left, right } | Op::Mul { left, right } => (Some(left), Some(right)),
-    }
-}
 
 /// The number of an operand: first the secrets, then the public inputs, then the values.
 fn number(s: &Ssa, operand: Operand) -> usize
@@ -42,6 +23,6 @@ pub(crate) fn shared_numbers(s: &Ssa, op: Op) -> (Option<usize>, Option<usize>)
     ensures first { result.0 ≡ slice_get (shared_numbers s.now op) 0 }
     ensures second { result.1 ≡ slice_get (shared_numbers s.now op) 1 }
 {
-    let (first, second) = shared(op);
+    let (first, second) = op.shared_operands();
     (first.map(|v| number(s, v)), second.map(|v| number(s, v)))
 }
