@@ -22,11 +22,9 @@ use std::alloc::Global;
 fn linear_operands(op: &Op) -> (Option<Operand>, Option<Operand>)
     ensures { option_to_list result.0 ++ option_to_list result.1 ≡ operands_by_kind op.now }
 {
-    match *op {
-        Op::Add { left, right } => (Some(left), Some(right)),
-        Op::AddPub { left, .. } | Op::Scale { left, .. } => (Some(left), None),
-        Op::Sq { arg } | Op::Map { arg, .. } => (Some(arg), None),
-        _ => (None, None),
+    match op {
+        Op::Mul { .. } | Op::Refresh { .. } => (None, None),
+        _ => op.shared_operands(),
     }
 }
 

@@ -8,7 +8,6 @@ ghost use Rattle.mk_gadget.specs.Product.{product_gadget};
 ghost use Rattle.mk_gadget.specs.Refresh.{refresh_gadget};
 ghost use Rattle.mk_gadget.specs.Template.{built_in};
 
-use crate::wired::is_public;
 use mk_base::{Items, Memory};
 use mk_code::{Code, CodeBuilder, Instr};
 use mk_field::{Field, Gf2};
@@ -69,7 +68,7 @@ impl Templates {
         ensures rows { (kind op.now ≢ Strong) → (result ≡ length (built_in self.now op.now).instrs) × (result ≡ length (built_in self.now op.now).outs) }
         ensures small { result ≤ 16 }
     {
-        if is_public(op) { 1 } else { self.shares }
+        if op.is_public() { 1 } else { self.shares }
     }
 }
 

@@ -4,7 +4,6 @@ ghost use Rattle.std.specs.Prelude.{◌≡◌, ◌⊎◌, ◌+◌, ◌*◌, ◌<
 ghost use Rattle.std.specs.List.{range_with_len};
 ghost use Rattle.mk_code.specs.Counting.{AllBelow};
 ghost use Rattle.mk_code.specs.Listing.{FitsAt};
-ghost use Rattle.mk_ssa.specs.Kinds.{shared_operands, public_operands};
 ghost use Rattle.mk_gadget.specs.Gadget.{placement, moved, placed_outs};
 ghost use Rattle.mk_gadget.specs.Template.{built_in};
 ghost use Rattle.mk_rules.specs.Wired.{Wired};
@@ -63,27 +62,6 @@ fn input_banks(alloc: Global, code: &Code) -> Result<BankList, Memory>
     Ok(banks)
 }
 
-/// The operands of an operator, in order.
-fn operands(op: &Op) -> (Option<Operand>, Option<Operand>)
-    ensures { option_to_list result.0 ++ option_to_list result.1 ≡ shared_operands op.now ++ public_operands op.now }
-{
-    match *op {
-        Op::Const { .. } => (None, None),
-        Op::PubSq { arg }
-        | Op::PubMap { arg, .. }
-        | Op::Lift { arg }
-        | Op::Sq { arg }
-        | Op::Map { arg, .. }
-        | Op::Refresh { arg } => (Some(arg), None),
-        Op::PubAdd { left, right }
-        | Op::PubMul { left, right }
-        | Op::Add { left, right }
-        | Op::AddPub { left, right }
-        | Op::Scale { left, right }
-        | Op::Mul { left, right } => (Some(left), Some(right)),
-    }
-}
-
 /// Appends the places of a value's shares.
 fn read(
     places: &mut Items<u32>,
@@ -106,7 +84,7 @@ fn reads(alloc: Global, code: &Code, banks: &[Items<u32>], op: &Op) -> Result<It
     ensures { IfOk result (λ places. places ≡ rule.reads code.now banks.now op.now) }
 {
     let mut places = Items::new(alloc);
-    let (first, second) = operands(op);
+    let (first, second) = op.operands();
     if let Some(value) = first {
         read(&mut places, code, banks, value)?;
     }

@@ -1,26 +1,11 @@
 //! Whether the operands of blocks are there, and of their kind.
 
 ghost use Rattle.std.specs.Prelude.{◌≡◌, ◌<◌, ◌^◌, ◌↔◌, ℕ, IsTrue, MatchOption, length};
-ghost use Rattle.mk_ssa.specs.Kinds.{is_public as public_by_kind};
 ghost use Rattle.mk_rules.specs.Wired.{IsSharedThere, IsPublicThere, IsWired, Wired};
 ghost use Rattle.mk_rules.specs.Places.{FirstUnwired};
 
 use mk_code::Code;
 use mk_ssa::{Op, Operand};
-
-/// Whether the value of the operator is public.
-pub(crate) fn is_public(op: &Op) -> bool
-    ensures { result ≡ public_by_kind op.now }
-{
-    matches!(
-        op,
-        Op::Const { .. }
-            | Op::PubAdd { .. }
-            | Op::PubMul { .. }
-            | Op::PubSq { .. }
-            | Op::PubMap { .. }
-    )
-}
 
 /// Whether the operand is a secret that is there or a shared block among those before.
 pub(crate) fn is_shared_there(code: &Code, before: &[Op], value: Operand) -> bool
@@ -30,7 +15,7 @@ pub(crate) fn is_shared_there(code: &Code, before: &[Op], value: Operand) -> boo
         Operand::Secret(k) => k < code.secrets(),
         Operand::Public(_) => false,
         Operand::Block(k) => match before.get(k as usize) {
-            Some(op) => !is_public(op),
+            Some(op) => !op.is_public(),
             None => false,
         },
     }
@@ -44,7 +29,7 @@ fn is_public_there(code: &Code, before: &[Op], value: Operand) -> bool
         Operand::Secret(_) => false,
         Operand::Public(k) => k < code.publics(),
         Operand::Block(k) => match before.get(k as usize) {
-            Some(op) => is_public(op),
+            Some(op) => op.is_public(),
             None => false,
         },
     }
