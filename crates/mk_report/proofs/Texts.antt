@@ -9,10 +9,10 @@ use Rattle.std.proofs.lemmas.List.FromFn.{length-enumerate_from, get_or-enumerat
 use Rattle.std.proofs.lemmas.List.Sums.{sum_by-cons}
 use Rattle.mk_code.specs.Listing.{Listing}
 use Rattle.mk_ssa.specs.declared.Op.{Op}
-use Rattle.mk_ssa.specs.declared.Op.TheVariants.{Const, PubAdd, PubMul, PubSq, PubMap, Lift, Add, AddPub, Scale, Sq, Map, Mul, Refresh}
 use Rattle.mk_ssa.specs.declared.Operand.{Operand}
 use Rattle.mk_ssa.specs.declared.Operand.TheVariants.{Secret, Public, Block}
 use Rattle.mk_ssa.specs.Kinds.{is_public}
+use Rattle.mk_ssa.specs.Operators.{operator_word}
 use Rattle.mk_gadget.specs.Gadget.{Gadget, moved, placement, placed, placed_outs}
 use Rattle.mk_gadget.specs.Template.{built_in}
 use Rattle.mk_gadget.specs.Product.{product_gadget}
@@ -22,11 +22,10 @@ use Rattle.mk_rules.specs.Tiles.{laid, reads, value_number, input_banks, first_p
 use Rattle.mk_rules.specs.Wired.{IsSharedThere, Wired}
 use Rattle.mk_rules.specs.Accepts.{IsAccepted}
 use Rattle.mk_rules.proofs.Doubled.{HasValue, reaches-there}
-use Rattle.mk_lines.specs.Words.{hex_byte, operand_word}
-use Rattle.mk_lines.specs.CertLines.{op_line, block_line as line_of_block, pair_words, mapped_words}
+use Rattle.mk_lines.specs.CertLines.{op_line, argument_words, block_line as line_of_block}
 use Rattle.mk_report.specs.declared.need.Place.{Place}
 use Rattle.mk_report.specs.Reached.{ReachesPlace, ArePlacesOf}
-use Rattle.mk_report.specs.Report.{IsReport, kind_word, instrs_of, secret_line, block_line, total_line}
+use Rattle.mk_report.specs.Report.{IsReport, instrs_of, secret_line, block_line, total_line}
 use Rattle.mk_report.proofs.Ascending.{in-front, ascending-same}
 
 -- one line more
@@ -101,20 +100,8 @@ report-one code cert text other first second =
     ∙ sym second.is
 
 -- the kinds are the words of block lines
-pub kind-of-line : (op : Op) → (words : List ℕ) × (op_line op ≡ line_of_block (kind_word op) words)
-kind-of-line (Const value) = (hex_byte value, refl)
-kind-of-line (PubAdd left right) = (pair_words left right, refl)
-kind-of-line (PubMul left right) = (pair_words left right, refl)
-kind-of-line (PubSq arg) = (operand_word arg, refl)
-kind-of-line (PubMap k arg) = (mapped_words k arg, refl)
-kind-of-line (Lift arg) = (operand_word arg, refl)
-kind-of-line (Add left right) = (pair_words left right, refl)
-kind-of-line (AddPub left right) = (pair_words left right, refl)
-kind-of-line (Scale left right) = (pair_words left right, refl)
-kind-of-line (Sq arg) = (operand_word arg, refl)
-kind-of-line (Map k arg) = (mapped_words k arg, refl)
-kind-of-line (Mul left right) = (pair_words left right, refl)
-kind-of-line (Refresh arg) = (operand_word arg, refl)
+pub kind-of-line : (op : Op) → (words : List ℕ) × (op_line op ≡ line_of_block (operator_word op) words)
+kind-of-line op = (argument_words op, refl)
 
 -- a shared value that is there with the number of a block is a shared block
 block-shared : (code : Listing) (blocks : List Op) (k : ℕ) (op : Op) (v : Operand) → IsSharedThere code blocks v

@@ -4,29 +4,13 @@ use Rattle.std.specs.List.{flat_map, range_with_len, enumerate_from, sum_by}
 use Rattle.mk_code.specs.Listing.{Listing}
 use Rattle.mk_code.specs.Trace.{randoms}
 use Rattle.mk_ssa.specs.declared.Op.{Op}
-use Rattle.mk_ssa.specs.declared.Op.TheVariants.{Const, PubAdd, PubMul, PubSq, PubMap, Lift, Add, AddPub, Scale, Sq, Map, Mul, Refresh}
 use Rattle.mk_ssa.specs.declared.Operand.TheVariants.{Secret, Block}
+use Rattle.mk_ssa.specs.Operators.{operator_word}
 use Rattle.mk_gadget.specs.Template.{built_in}
 use Rattle.mk_rules.specs.Claimed.{Claimed}
 use Rattle.mk_lines.specs.Words.{line, operand_word}
 use Rattle.mk_report.specs.declared.need.Place.{Place}
 use Rattle.mk_report.specs.Reached.{ArePlacesOf}
-
--- the word that stands for an operator in a bundle text
-abbrev pub kind_word : Op → List ℕ
-kind_word (Const value) = codes "const"
-kind_word (PubAdd left right) = codes "padd"
-kind_word (PubMul left right) = codes "pmul"
-kind_word (PubSq arg) = codes "psq"
-kind_word (PubMap map arg) = codes "pmap"
-kind_word (Lift arg) = codes "lift"
-kind_word (Add left right) = codes "add"
-kind_word (AddPub left right) = codes "addp"
-kind_word (Scale left right) = codes "scale"
-kind_word (Sq arg) = codes "sq"
-kind_word (Map map arg) = codes "map"
-kind_word (Mul left right) = codes "mul"
-kind_word (Refresh arg) = codes "refresh"
 
 -- how many instructions a block has at an order
 abbrev pub instrs_of : ℕ → Op → ℕ
@@ -56,7 +40,7 @@ secret_line k places = line (operand_word (Secret k) ++ codes " input 0 0 " ++ n
 -- the line of a block
 abbrev pub block_line : ℕ → ℕ → Op → List Place → List ℕ
 block_line order k op places =
-    line (operand_word (Block k) ++ codes " " ++ kind_word op ++ codes " " ++ decimal (instrs_of order op) ++ codes " "
+    line (operand_word (Block k) ++ codes " " ++ operator_word op ++ codes " " ++ decimal (instrs_of order op) ++ codes " "
     ++ decimal (randoms_of order op) ++ codes " " ++ need_words places)
 
 -- how many blocks there are, and what they cost together

@@ -4,34 +4,13 @@ ghost use Rattle.std.specs.Prelude.{◌≡◌, ◌+◌, ◌<◌, ◌≤◌, ◌^
 ghost use Rattle.std.specs.List.{flat_map, range_with_len, enumerate_from, sum_by};
 ghost use Rattle.mk_base.specs.declared.TheConstants.{TOP_ORDER};
 ghost use Rattle.mk_report.specs.Passing.{IsTold, AreTold};
-ghost use Rattle.mk_report.specs.Report.{kind_word, instrs_of, randoms_of, place_word, places_word, need_words, secret_line, block_line, total_line, report_text};
+ghost use Rattle.mk_report.specs.Report.{instrs_of, randoms_of, place_word, places_word, need_words, secret_line, block_line, total_line, report_text};
 
 use crate::need::{Place, Told};
 use mk_code::Code;
 use mk_rules::cost;
 use mk_ssa::Op;
 use std::alloc::AllocError;
-
-/// The word that stands for the operator in a bundle text.
-fn kind(op: Op) -> &'static str
-    ensures { result.now ≡ kind_word op }
-{
-    match op {
-        Op::Const { .. } => "const",
-        Op::PubAdd { .. } => "padd",
-        Op::PubMul { .. } => "pmul",
-        Op::PubSq { .. } => "psq",
-        Op::PubMap { .. } => "pmap",
-        Op::Lift { .. } => "lift",
-        Op::Add { .. } => "add",
-        Op::AddPub { .. } => "addp",
-        Op::Scale { .. } => "scale",
-        Op::Sq { .. } => "sq",
-        Op::Map { .. } => "map",
-        Op::Mul { .. } => "mul",
-        Op::Refresh { .. } => "refresh",
-    }
-}
 
 /// Appends a place.
 fn push_place(text: &mut String, place: Place) -> Result<(), AllocError>
@@ -93,7 +72,7 @@ fn push_block(
     ensures { OnOk result ((places : List Place) → IsTold places told.now → string_bytes text.new ≡ string_bytes text.old ++ block_line order block op places) }
 {
     let price = cost(&op, order);
-    let word = kind(op);
+    let word = op.word();
     let instrs = price.instrs;
     let randoms = price.randoms;
     write!(text, "b{block} {word} {instrs} {randoms} ")?;

@@ -29,16 +29,8 @@ fn passed_to(op: Op) -> (Option<Operand>, Option<Operand>)
     ensures second { result.1 ≡ slice_get (operands_of op) 1 }
 {
     match op {
-        Op::Const { .. }
-        | Op::PubAdd { .. }
-        | Op::PubMul { .. }
-        | Op::PubSq { .. }
-        | Op::PubMap { .. }
-        | Op::Lift { .. }
-        | Op::Refresh { .. } => (None, None),
-        Op::AddPub { left, .. } | Op::Scale { left, .. } => (Some(left), None),
-        Op::Sq { arg } | Op::Map { arg, .. } => (Some(arg), None),
-        Op::Add { left, right } | Op::Mul { left, right } => (Some(left), Some(right)),
+        Op::Refresh { .. } => (None, None),
+        _ => op.shared_operands(),
     }
 }
 
