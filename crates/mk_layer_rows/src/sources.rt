@@ -38,6 +38,12 @@ pub(crate) fn typed_of(alloc: Global, text: &str) -> Result<Typed, SourceRefusal
     check_types(alloc, program)
 }
 
+/// The same, compiled with two shares.
+pub(crate) fn small_bundle_of(alloc: Global, text: &str) -> Result<Bundle, SourceRefusal> {
+    let typed = typed_of(alloc, text)?;
+    compile(alloc, &typed, 1)
+}
+
 /// The same, compiled with three shares.
 pub(crate) fn bundle_of(alloc: Global, text: &str) -> Result<Bundle, SourceRefusal> {
     let typed = typed_of(alloc, text)?;
