@@ -1,5 +1,5 @@
 -- When a claim is that of its output.
-use Rattle.std.proofs.Common.{◌≡◌, ℕ, ◌+◌, ◌*◌, ◌<◌, ◌≤◌, List, [], length, slice_get, slice_index_or, Option, Some, None, IsSomeAnd, inl, inr, sym, subst, arith}
+use Rattle.std.proofs.Common.{◌≡◌, ℕ, ◌+◌, ◌*◌, ◌<◌, ◌≤◌, List, [], length, slice_get, slice_index_or, Option, None, IsSomeAnd, inl, inr, sym, subst, arith}
 use Rattle.std.proofs.lemmas.Bool.{cases_lt}
 use Rattle.std.proofs.Math.Nat.{mul-le-mul_right}
 use Rattle.mk_code.specs.Listing.{Listing, IsListing}
@@ -26,15 +26,6 @@ module _ (code : Listing) (product refresh : Gadget) (blocks : List Op) (claims 
   -- the claim is of a value that is there, whose bank is the output
   abbrev pub IsOutput : Operand → Type 0
   IsOutput v = IsSharedThere code blocks v × (slice_index_or (banks_of code product refresh blocks) (value_number code v) [] ≡ output_places code k)
-
-  -- such a value is claimed
-  pub IsClaimed-from : (v : Operand) → k * (code.order + 1) < length code.outs → slice_get claims k ≡ Some v → IsOutput v
-      → IsClaimed code product refresh blocks claims k
-  IsClaimed-from v within at is = record { output = within; claim = subst (λ (o : Option Operand). IsSomeAnd o IsOutput) (sym at) is }
-
-  -- a claimed value is such
-  pub IsClaimed-to : (v : Operand) → slice_get claims k ≡ Some v → IsClaimed code product refresh blocks claims k → IsOutput v
-  IsClaimed-to v at claimed = subst (λ (o : Option Operand). IsSomeAnd o IsOutput) at claimed.claim
 
   -- without a claim there is none
   pub IsClaimed-none : slice_get claims k ≡ None → IsClaimed code product refresh blocks claims k → ⊥

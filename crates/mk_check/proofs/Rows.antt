@@ -1,7 +1,7 @@
 -- The templates of public and linear operators, instruction by instruction.
 use Rattle.std.proofs.Common.{◌≡◌, ◌≢◌, Bool, false, ℕ, zero, suc, ◌+◌, ◌-◌, ◌*◌, ◌<◌, ◌≤◌, length, map, replicate, slice_get, Some, if◌then◌else◌, nat_eq, refl, sym, ◌∙◌, ap, subst, arith}
 use Rattle.std.specs.List.{range_with_len}
-use Rattle.std.proofs.lemmas.Bool.{ne_eqb, eq-eqb}
+use Rattle.std.proofs.lemmas.Bool.{ne_eqb}
 use Rattle.std.proofs.lemmas.List.{length-replicate}
 use Rattle.std.proofs.lemmas.List.FromFn.{length-range_with_len, length-map-range_with_len, get_or-map-range_with_len, get_or-range_with_len}
 use Rattle.std.proofs.lemmas.Option.{slice_get-get_or}
@@ -12,10 +12,6 @@ use Rattle.mk_ssa.specs.declared.Op.{Op}
 use Rattle.mk_ssa.specs.declared.Op.TheVariants.{Const, PubAdd, PubMul, PubSq, PubMap, Lift, Add, AddPub, Scale, Sq, Map, Mul, Refresh}
 use Rattle.mk_ssa.specs.Kinds.{Strong, kind, is_public, shared_operands, public_operands}
 use Rattle.mk_gadget.specs.Template.{built_in, lift}
-
--- a range, by its length
-pub range-whole : (p n : ℕ) → range_with_len p n ≡ range_with_len p (length (range_with_len p n))
-range-whole p n = ap (range_with_len p) (sym (length-range_with_len p n))
 
 -- an element of rows
 pub row-at : (row : ℕ → Instr) (n k : ℕ) → k < length (map row (range_with_len 0 n)) → slice_get (map row (range_with_len 0 n)) k ≡ Some (row k)
@@ -88,13 +84,6 @@ pub added-at : (n k : ℕ) (left right : Operand) → (k ≡ 0 → ⊥) → k < 
 added-at n k left right other below =
     row-at (λ i. if nat_eq i 0 then instr.Add 0 n else instr.Copy i) n k below
     ∙ ap (λ (b : Bool). Some (if b then instr.Add 0 n else instr.Copy k)) (ne_eqb k 0 other)
-
--- the first
-pub added-first : (n k : ℕ) (left right : Operand) → k ≡ 0 → k < length (built_in n (AddPub left right)).instrs
-    → slice_get (built_in n (AddPub left right)).instrs k ≡ Some (instr.Add 0 n)
-added-first n k left right own below =
-    row-at (λ i. if nat_eq i 0 then instr.Add 0 n else instr.Copy i) n k below
-    ∙ ap (λ (b : Bool). Some (if b then instr.Add 0 n else instr.Copy k)) (eq-eqb k 0 own)
 
 -- an operator that is neither a product nor a refresh isn't strong
 pub weak-from : (op : Op) → ((left right : Operand) → op ≡ Mul left right → ⊥) → ((arg : Operand) → op ≡ Refresh arg → ⊥) → kind op ≢ Strong

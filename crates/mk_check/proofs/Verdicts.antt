@@ -1,5 +1,5 @@
 -- What follows from the causes of refusals.
-use Rattle.std.proofs.Common.{◌≡◌, ℕ, ◌+◌, ◌⊎◌, Result, Ok, Err, OnOk, IfErr, inl, inr, ◌∙◌, subst, ap}
+use Rattle.std.proofs.Common.{◌≡◌, ℕ, ◌+◌, Result, Ok, Err, OnOk, ◌∙◌, subst, ap}
 use Rattle.mk_code.specs.Listing.{Listing}
 use Rattle.mk_code.specs.Private.{Private}
 use Rattle.mk_ssa.specs.declared.Operand.{Operand as Value}
@@ -16,35 +16,12 @@ use Rattle.mk_rules.proofs.Places.{FirstUnwired-not, FirstUnwired-only, FirstMis
 use Rattle.mk_rules.proofs.Claims.{FirstWrongOutput-not}
 use Rattle.mk_rules.proofs.Doubled.{FirstDoubled-not, FirstDoubled-block, FirstDoubled-value}
 use Rattle.mk_rules.proofs.BuiltIn.{built_in-given, accepted_built_in-private}
-use Rattle.mk_check.specs.Laying.{all_laid, IsOffTile}
-use Rattle.mk_check.specs.Passing.{IsDoubling}
+use Rattle.mk_check.specs.Laying.{all_laid}
 use Rattle.mk_check.specs.Verdict.{Refuses}
 use Rattle.mk_check.specs.declared.refusal.CheckRefusal.{CheckRefusal}
 use Rattle.mk_check.specs.declared.refusal.CheckRefusal.TheVariants.{Operand, Tile, Output, Doubled, Memory}
 
 module _ (code : Listing) (cert : Claimed) where
-  -- a tile that is off is a cause where the blocks are wired
-  pub off-refuses : (e : CheckRefusal) → Wired code cert.blocks → (e ≡ Memory) ⊎ IsOffTile code cert.blocks e → (e ≡ Memory) ⊎ Refuses code cert e
-  off-refuses e wired (inl memory) = inl memory
-  off-refuses (Tile k) wired (inr off) = inr (wired, off)
-  off-refuses (Operand k) wired (inr off) = absurd off
-  off-refuses (Output k) wired (inr off) = absurd off
-  off-refuses (Doubled value k) wired (inr off) = absurd off
-  off-refuses Memory wired (inr off) = absurd off
-
-  -- a doubled value is one where all else holds
-  pub doubling-refuses : Wired code cert.blocks → Tiles code (product_gadget (code.order + 1)) (refresh_gadget (code.order + 1)) cert.blocks
-      → Outputs code (product_gadget (code.order + 1)) (refresh_gadget (code.order + 1)) cert.blocks cert.claims
-      → (r : Result (Unit {0}) CheckRefusal) → IfErr r (λ e. (e ≡ Memory) ⊎ IsDoubling code cert.blocks e)
-      → IfErr r (λ e. (e ≡ Memory) ⊎ Refuses code cert e)
-  doubling-refuses wired tiles outputs (Ok done) is = tt
-  doubling-refuses wired tiles outputs (Err e) (inl memory) = inl memory
-  doubling-refuses wired tiles outputs (Err (Doubled value k)) (inr first) = inr (wired, tiles, outputs, first)
-  doubling-refuses wired tiles outputs (Err (Operand k)) (inr first) = absurd first
-  doubling-refuses wired tiles outputs (Err (Tile k)) (inr first) = absurd first
-  doubling-refuses wired tiles outputs (Err (Output k)) (inr first) = absurd first
-  doubling-refuses wired tiles outputs (Err Memory) (inr first) = absurd first
-
   -- where none is doubled either, the rule accepts
   pub undoubled-accepted : Wired code cert.blocks → Tiles code (product_gadget (code.order + 1)) (refresh_gadget (code.order + 1)) cert.blocks
       → Outputs code (product_gadget (code.order + 1)) (refresh_gadget (code.order + 1)) cert.blocks cert.claims

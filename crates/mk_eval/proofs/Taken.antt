@@ -23,11 +23,10 @@ use Rattle.mk_unroll.proofs.FirstOperands.{less_among}
 use Rattle.mk_unroll.proofs.Unrolls.{unrolled_outs_count, unrolled_result}
 use Rattle.mk_types.specs.Elements.{is_output_class, elements_of, publics_of, secrets_of}
 use Rattle.mk_types.specs.Units.{units}
-use Rattle.mk_types.specs.Stops.{Event, Work, Operations, Index, stop}
+use Rattle.mk_types.specs.Stops.{Work, Operations, Index, stop}
 use Rattle.mk_ast.specs.declared.refusal.Limit.TheVariants as limit_
-use Rattle.mk_eval.specs.declared.refusal.EvalRefusal.{EvalRefusal}
 use Rattle.mk_eval.specs.declared.refusal.EvalRefusal.TheVariants as refusal_
-use Rattle.mk_eval.specs.Refusals.{first_of, too_many_elements, wrong_number, no_element, inputs_refusal, refusal, refusal_of_event}
+use Rattle.mk_eval.specs.Refusals.{first_of, too_many_elements, wrong_number, no_element, inputs_refusal, refusal_of_event}
 
 -- what is taken
 pub record IsTaken (p : Program) (publics secrets : List ℕ) : Type 0 where
@@ -123,23 +122,6 @@ is_taken p publics secrets none =
       publics_elements = elements-right p.field _ publics d.0;
       secrets_elements = elements-right p.field _ secrets e.0;
     }
-
--- inputs that are refused are the refusal
-pub refused-inputs : (p : Program) (publics secrets : List ℕ) (e : EvalRefusal) → inputs_refusal p publics secrets ≡ Some e → refusal p publics secrets ≡ Some e
-refused-inputs p publics secrets e h = ap (λ (o : Option EvalRefusal). first_of (o ∷ option_map refusal_of_event (stop (units p)) ∷ [])) h
-
--- and where they are taken, what stops execution is
-pub refused-stop : (p : Program) (publics secrets : List ℕ) (e : EvalRefusal) → inputs_refusal p publics secrets ≡ None
-    → option_map refusal_of_event (stop (units p)) ≡ Some e → refusal p publics secrets ≡ Some e
-refused-stop p publics secrets e h k =
-    ap (λ (o : Option EvalRefusal). first_of (o ∷ option_map refusal_of_event (stop (units p)) ∷ [])) h
-    ∙ ap (λ (o : Option EvalRefusal). first_of (o ∷ [])) k
-
--- and where nothing stops it there is no refusal
-pub refused-not : (p : Program) (publics secrets : List ℕ) → inputs_refusal p publics secrets ≡ None → stop (units p) ≡ None → refusal p publics secrets ≡ None
-refused-not p publics secrets h k =
-    ap (λ (o : Option EvalRefusal). first_of (o ∷ option_map refusal_of_event (stop (units p)) ∷ [])) h
-    ∙ ap (λ (o : Option Event). first_of (option_map refusal_of_event o ∷ [])) k
 
 -- the values of a program that is evaluated give its result, of few elements
 pub evaluates : (p : Program) (publics secrets : List ℕ) → IsRegular p → IsWellTyped p → inputs_refusal p publics secrets ≡ None → stop (units p) ≡ None

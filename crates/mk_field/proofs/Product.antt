@@ -73,21 +73,12 @@ pub product-zero_right : (field : FieldId) (a : ℕ) → product field a 0 ≡ 0
 product-zero_right Gf2 a = and_comm a 0
 product-zero_right Gf256 a = byte_product-zero_right a
 
--- 1 is an element
-one-in_field : (field : FieldId) → 1 < size field
-one-in_field Gf2 = omega arith
-one-in_field Gf256 = omega arith
-
 -- 1 times an element
 pub product-one_left : (field : FieldId) (a : ℕ) → a < size field → product field 1 a ≡ a
 product-one_left Gf2 zero below = refl
 product-one_left Gf2 (suc zero) below = refl
 product-one_left Gf2 (suc (suc n)) below = absurd (omega arith)
 product-one_left Gf256 a below = byte_product-one_left a below
-
--- an element times 1
-pub product-one_right : (field : FieldId) (a : ℕ) → a < size field → product field a 1 ≡ a
-product-one_right field a below = product-comm field a 1 below (one-in_field field) ∙ product-one_left field a below
 
 -- the square of a sum
 pub square-sum : (field : FieldId) (a b : ℕ) → a < size field → b < size field

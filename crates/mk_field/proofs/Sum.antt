@@ -47,10 +47,6 @@ sum-interchange a b c d = xor_assoc a b (bit_xor c d) ∙ ap (bit_xor a) (sum-le
 pub sum-inject : (a b c : ℕ) → bit_xor a b ≡ bit_xor a c → b ≡ c
 sum-inject a b c e = sym (sum-cancel a b) ∙ ap (bit_xor a) e ∙ sum-cancel a c
 
--- elements whose sum is 0 are equal
-pub sum-zero_equal : (a b : ℕ) → bit_xor a b ≡ 0 → a ≡ b
-sum-zero_equal a b e = sym (sum-cancel_right a b) ∙ ap (λ (x : ℕ). bit_xor x b) e
-
 -- the sum of numbers below a power of 2 is below it
 pub sum-below : (k a b : ℕ) → a < 2 ^ k → b < 2 ^ k → bit_xor a b < 2 ^ k
 sum-below k a b left right = xor_lt k a b left right

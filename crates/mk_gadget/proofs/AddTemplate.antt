@@ -1,26 +1,13 @@
--- The template of a sum, placed in a code: its instructions, its out bank, and that it adds sharings.
-use Rattle.std.proofs.Common.{◌≡◌, ℕ, zero, suc, ◌+◌, ◌-◌, ◌*◌, ◌<◌, ◌≤◌, List, [], ◌∷◌, ◌++◌, length, map, slice_index, bit_xor, refl, sym, ◌∙◌, ap, arith, append_assoc}
+-- Lists made from ranges, where the places of a placed template are, and what is observed at places.
+use Rattle.std.proofs.Common.{◌≡◌, ℕ, zero, suc, ◌+◌, ◌-◌, ◌<◌, ◌≤◌, List, [], ◌∷◌, ◌++◌, length, map, slice_index, bit_xor, refl, sym, ◌∙◌, ap, arith}
 use Rattle.std.specs.List.{range_with_len}
-use Rattle.std.proofs.lemmas.List.{length-append, append-nil, get_or_append_left, get_or-append-add}
-use Rattle.std.proofs.lemmas.List.FromFn.{length-range_with_len, length-map-range_with_len, get_or-range_with_len}
+use Rattle.std.proofs.lemmas.List.{length-append, get_or_append_left, get_or-append-add}
 use Rattle.std.proofs.lemmas.Bool.{lt-ltb, le-ltb}
-use Rattle.mk_field.specs.declared.field.FieldId.{FieldId}
-use Rattle.mk_field.specs.declared.map.AddMap.{AddMap}
-use Rattle.mk_field.specs.Sharing.{IsSharing, field_sum}
+use Rattle.mk_field.specs.Sharing.{field_sum}
 use Rattle.mk_field.proofs.Sum.{sum-interchange}
-use Rattle.mk_code.specs.declared.instr.Instr.{Instr}
-use Rattle.mk_code.specs.declared.instr.Instr.TheVariants as instr
-use Rattle.mk_code.specs.Trace.{run, randoms}
 use Rattle.mk_code.specs.Counting.{AllBelow}
 use Rattle.mk_code.specs.Private.{observation}
-use Rattle.mk_ssa.specs.declared.Operand.{Operand}
-use Rattle.mk_ssa.specs.declared.Op.TheVariants as op
-use Rattle.mk_gadget.specs.Gadget.{Gadget, placement, moved, placed, placed_outs}
-use Rattle.mk_gadget.specs.Template.{template}
-
--- the sums of the entries at two banks of places, share by share
-abbrev pub adds : ℕ → (ℕ → ℕ) → (ℕ → ℕ) → List Instr
-adds n left right = map (λ i. instr.Add (left i) (right i)) (range_with_len 0 n)
+use Rattle.mk_gadget.specs.Gadget.{placement}
 
 -- two functions that agree on a range give the same list
 pub map-range-same : {X : Type 0} (f g : ℕ → X) (a n : ℕ) → ((i : ℕ) → a ≤ i → i < a + n → f i ≡ g i)
@@ -65,75 +52,6 @@ placement-right xs ys base n i left right below =
 -- the gadget's own places stand from the base on
 pub placement-own : (reads : List ℕ) (base i : ℕ) → length reads ≤ i → placement reads base i ≡ base + (i - length reads)
 placement-own reads base i beyond = rw (le-ltb i (length reads) beyond) refl
-
--- the placed template of a sum adds its operands' banks, share by share
-pub placed-add : (n base : ℕ) (product refresh : Gadget) (left right : Operand) (xs ys : List ℕ) → length xs ≡ n → length ys ≡ n
-    → placed (xs ++ ys) base (template n product refresh (op.Add left right)) ≡ adds n (slice_index xs) (slice_index ys)
-placed-add n base product refresh left right xs ys first second =
-    map-map-range (moved (placement (xs ++ ys) base)) (λ i. instr.Add i (n + i)) 0 n
-    ∙ map-range-same (λ i. moved (placement (xs ++ ys) base) (instr.Add i (n + i))) (λ i. instr.Add (slice_index xs i) (slice_index ys i)) 0 n
-    (λ i low high.
-    let p : placement (xs ++ ys) base i ≡ slice_index xs i = placement-left xs ys base n i first (omega arith) in
-    let q : placement (xs ++ ys) base (n + i) ≡ slice_index ys i = placement-right xs ys base n i first second (omega arith) in
-    cc)
-
--- sums of banks of neighbouring places
-pub adds-ranges : (n left right : ℕ)
-    → adds n (slice_index (range_with_len left n)) (slice_index (range_with_len right n)) ≡ adds n (λ i. left + i) (λ i. right + i)
-adds-ranges n left right =
-    map-range-same _ _ 0 n
-    (λ i low high.
-    let p : slice_index (range_with_len left n) i ≡ left + i = get_or-range_with_len left n i 0 (omega arith) in
-    let q : slice_index (range_with_len right n) i ≡ right + i = get_or-range_with_len right n i 0 (omega arith) in
-    cc)
-
--- the placed template of a sum adds two banks of neighbouring places, share by share
-pub placed-add-ranges : (n base : ℕ) (product refresh : Gadget) (a b : Operand) (left right : ℕ)
-    → placed (range_with_len left n ++ range_with_len right n) base (template n product refresh (op.Add a b)) ≡ adds n (λ i. left + i) (λ i. right + i)
-placed-add-ranges n base product refresh a b left right =
-    placed-add n base product refresh a b (range_with_len left n) (range_with_len right n) (length-range_with_len left n) (length-range_with_len right n)
-    ∙ adds-ranges n left right
-
--- its out bank are the places of its instructions
-pub placed_outs-add : (n base : ℕ) (product refresh : Gadget) (left right : Operand) (xs ys : List ℕ) → length xs ≡ n → length ys ≡ n
-    → placed_outs (xs ++ ys) base (template n product refresh (op.Add left right)) ≡ range_with_len base n
-placed_outs-add n base product refresh left right xs ys first second =
-    let count : length (xs ++ ys) ≡ 2 * n = omega (arith, length-append xs ys) in
-    map-range-same (placement (xs ++ ys) base) (λ i. base + (i - 2 * n)) (2 * n) n
-    (λ i low high. placement-own (xs ++ ys) base i (omega arith) ∙ ap (λ (k : ℕ). base + (i - k)) count)
-    ∙ range-moved (2 * n) base n
-
--- behind entries that have both banks, the sums stand in order
-pub run-adds : (field : FieldId) (maps : List AddMap) (tape entries : List ℕ) (left right : ℕ → ℕ) (a n : ℕ)
-    → ((i : ℕ) → a ≤ i → i < a + n → (left i < length entries) × (right i < length entries))
-    → run field maps (map (λ i. instr.Add (left i) (right i)) (range_with_len a n)) tape entries
-    ≡ entries ++ map (λ i. bit_xor (slice_index entries (left i)) (slice_index entries (right i))) (range_with_len a n)
-unfolding run
-run-adds field maps tape entries left right a zero within = sym (append-nil entries)
-run-adds field maps tape entries left right a (suc n) within =
-    let v : ℕ = bit_xor (slice_index entries (left a)) (slice_index entries (right a)) in
-    let more : List ℕ = entries ++ v ∷ [] in
-    let grown : length more ≡ length entries + 1 = length-append entries (v ∷ []) in
-    let rest : run field maps (map (λ i. instr.Add (left i) (right i)) (range_with_len (a + 1) n)) tape more
-    ≡ more ++ map (λ i. bit_xor (slice_index more (left i)) (slice_index more (right i))) (range_with_len (a + 1) n) =
-    run-adds field maps tape more left right (a + 1) n
-    (λ i low high. (omega (arith, (within i (omega arith) (omega arith)).0, grown), omega (arith, (within i (omega arith) (omega arith)).1, grown))) in
-    let same : map (λ i. bit_xor (slice_index more (left i)) (slice_index more (right i))) (range_with_len (a + 1) n)
-    ≡ map (λ i. bit_xor (slice_index entries (left i)) (slice_index entries (right i))) (range_with_len (a + 1) n) =
-    map-range-same _ _ (a + 1) n
-    (λ i low high.
-    let at : (left i < length entries) × (right i < length entries) = within i (omega arith) (omega arith) in
-    let p : slice_index more (left i) ≡ slice_index entries (left i) = get_or_append_left entries (v ∷ []) 0 (left i) at.0 in
-    let q : slice_index more (right i) ≡ slice_index entries (right i) = get_or_append_left entries (v ∷ []) 0 (right i) at.1 in
-    cc) in
-    rest ∙ ap (λ (xs : List ℕ). more ++ xs) same
-    ∙ append_assoc entries (v ∷ []) (map (λ i. bit_xor (slice_index entries (left i)) (slice_index entries (right i))) (range_with_len (a + 1) n))
-
--- sums take no random element
-pub randoms-adds : (left right : ℕ → ℕ) (a n : ℕ) → randoms (map (λ i. instr.Add (left i) (right i)) (range_with_len a n)) ≡ 0
-unfolding randoms
-randoms-adds left right a zero = refl
-randoms-adds left right a (suc n) = omega (arith, randoms-adds left right (a + 1) n)
 
 -- an element of a list of numbers below q
 pub AllBelow-at : (q : ℕ) (xs : List ℕ) (i : ℕ) → AllBelow q xs → i < length xs → slice_index xs i < q
@@ -192,35 +110,3 @@ field_sum-sums f g a zero = refl
 field_sum-sums f g a (suc n) =
     ap (λ (s : ℕ). bit_xor (bit_xor (f a) (g a)) s) (field_sum-sums f g (a + 1) n)
     ∙ sum-interchange (f a) (g a) (field_sum (map f (range_with_len (a + 1) n))) (field_sum (map g (range_with_len (a + 1) n)))
-
--- behind the entries stand n more, which share the sum of what the two banks share
-pub record AddsSharings (n : ℕ) (xs ys entries after : List ℕ) : Type 0 where
-  pub more : List ℕ
-  pub behind : after ≡ entries ++ more
-  pub seen : observation (range_with_len (length entries) n) after ≡ more
-  pub sharing : IsSharing n (bit_xor (field_sum (observation xs entries)) (field_sum (observation ys entries))) more
-
--- the placed template of a sum, run behind entries that have both banks, adds what they share
-pub run-add : (field : FieldId) (maps : List AddMap) (tape entries : List ℕ) (n base : ℕ) (product refresh : Gadget) (left right : Operand) (xs ys : List ℕ)
-    → length xs ≡ n → length ys ≡ n → AllBelow (length entries) xs → AllBelow (length entries) ys
-    → AddsSharings n xs ys entries (run field maps (placed (xs ++ ys) base (template n product refresh (op.Add left right))) tape entries)
-run-add field maps tape entries n base product refresh left right xs ys first second here there =
-    let f : ℕ → ℕ = λ i. slice_index entries (slice_index xs i) in
-    let g : ℕ → ℕ = λ i. slice_index entries (slice_index ys i) in
-    let more : List ℕ = map (λ i. bit_xor (f i) (g i)) (range_with_len 0 n) in
-    let count : length more ≡ n = length-map-range_with_len (λ i. bit_xor (f i) (g i)) 0 n in
-    let ran : run field maps (placed (xs ++ ys) base (template n product refresh (op.Add left right))) tape entries ≡ entries ++ more =
-    ap (λ (is : List Instr). run field maps is tape entries) (placed-add n base product refresh left right xs ys first second)
-    ∙ run-adds field maps tape entries (slice_index xs) (slice_index ys) 0 n
-    (λ i low high. (AllBelow-at (length entries) xs i here (omega (arith, high, first)), AllBelow-at (length entries) ys i there (omega (arith, high, second)))) in
-    record {
-      more = more;
-      behind = ran;
-      seen = ap (observation (range_with_len (length entries) n)) ran ∙ observed-behind entries more n count;
-      sharing = record {
-        count = count;
-        sum = field_sum-sums f g 0 n
-            ∙ ap (λ (s : List ℕ). bit_xor (field_sum s) (field_sum (map g (range_with_len 0 n)))) (sym (observed-by_index entries xs n first))
-            ∙ ap (λ (s : List ℕ). bit_xor (field_sum (observation xs entries)) (field_sum s)) (sym (observed-by_index entries ys n second));
-      };
-    }

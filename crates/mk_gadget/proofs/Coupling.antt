@@ -13,11 +13,10 @@ use Rattle.mk_field.specs.Field.{bits, size}
 use Rattle.mk_field.specs.Sharing.{added}
 use Rattle.mk_field.proofs.Sum.{sum-zero_left, sum-zero_right}
 use Rattle.mk_code.specs.Trace.{run, randoms}
-use Rattle.mk_code.specs.Counting.{total, one_if_equal, AllBelow, Elements}
+use Rattle.mk_code.specs.Counting.{one_if_equal, AllBelow, Elements}
 use Rattle.mk_code.specs.Private.{observation}
 use Rattle.mk_code.proofs.LeftOut.{IsLeftOut}
 use Rattle.mk_code.proofs.Totals.{total-same, total-moved}
-use Rattle.mk_code.proofs.Matching.{total-matched}
 use Rattle.mk_gadget.specs.Gadget.{Gadget}
 use Rattle.mk_gadget.specs.Pairs.{Pair, pairs, pair_number}
 use Rattle.mk_gadget.specs.Steady.{block_view, block_ways, DependsAt}
@@ -37,16 +36,6 @@ coupled field maps gadget first second probes outs seen d fits below same =
     total-same (size field) count (λ tape. one_if_equal (block_view (length first) gadget probes outs (run field maps gadget.instrs tape first)) seen) (λ tape. after (added d tape))
     (λ tape here. ap (λ (xs : List ℕ). one_if_equal xs seen) (same tape here))
     ∙ total-moved (bits field) count d after fits below
-
--- states with equal ways have equal totals of whatever is computed from what is seen
-pub ways-matched : (field : FieldId) (maps : List AddMap) (gadget : Gadget) (first second probes outs : List ℕ) (h : List ℕ → ℕ)
-    → ((seen : List ℕ) → block_ways field maps gadget first probes outs seen ≡ block_ways field maps gadget second probes outs seen)
-    → total (size field) (randoms gadget.instrs) (λ tape. h (block_view (length first) gadget probes outs (run field maps gadget.instrs tape first)))
-    ≡ total (size field) (randoms gadget.instrs) (λ tape. h (block_view (length second) gadget probes outs (run field maps gadget.instrs tape second)))
-ways-matched field maps gadget first second probes outs h even =
-    let u : List ℕ → List ℕ = λ tape. block_view (length first) gadget probes outs (run field maps gadget.instrs tape first) in
-    let v : List ℕ → List ℕ = λ tape. block_view (length second) gadget probes outs (run field maps gadget.instrs tape second) in
-    total-matched (size field) (randoms gadget.instrs) u v (λ tape. h (u tape)) (λ tape. h (v tape)) even (λ s t left right e. ap h e)
 
 -- without public operands it is enough to look at the shares
 pub depends-unpublic : (field : FieldId) (maps : List AddMap) (n m : ℕ) (gadget : Gadget) (probes outs : List ℕ) (asked : ℕ → List ℕ)

@@ -3,7 +3,7 @@
 use Rattle.std.proofs.Common.{arith, Bool, ◌≡◌, ℕ, zero, suc, ◌+◌, ◌-◌, ◌*◌, ◌<◌, ◌≤◌, List, [], ◌∷◌, ◌++◌, length, map, get_or, if◌then◌else◌, inl, inr, refl, sym, ◌∙◌, ap, subst, append_assoc, append-nil}
 use Rattle.std.specs.List.{range_with_len}
 use Rattle.std.proofs.lemmas.Bool.{cases_lt, cases_eq, cases_order, eq-eqb, ne_eqb}
-use Rattle.std.proofs.lemmas.List.{length-append, get_or_append_left, get_or-append-add, get_or_push}
+use Rattle.std.proofs.lemmas.List.{length-append, get_or_append_left, get_or-append-add}
 use Rattle.std.proofs.lemmas.List.FromFn.{length-map-range_with_len, get_or-map-range_with_len, map-range_with_len_more}
 use Rattle.mk_gadget.specs.Pairs.{Pair, pairs_of, pairs_upto, pairs, pair_number, others}
 
@@ -133,25 +133,6 @@ unfolding pairs_upto
 pairs-induct n P zero within step start = start
 pairs-induct n P (suc m) within step start =
     pairs_before-induct n P m (n - (m + 1)) (omega (arith, within)) step (pairs-induct n P m (omega (arith, within)) step start)
-
--- what stands at a place of the list of pairs is a pair, with this number
-pub record IsPairAt (n k : ℕ) (p : Pair) : Type 0 where
-  pub order : p.0 < p.1
-  pub high : p.1 < n
-  pub number : pair_number n p.0 p.1 ≡ k
-
--- each place of the list of pairs has one
-pub pairs-at : (n k : ℕ) → k < length (pairs n) → IsPairAt n k (get_or (pairs n) k (pair 0 0))
-pairs-at n k below =
-    pairs-induct n (λ ps. (k : ℕ) → k < length ps → IsPairAt n k (get_or ps k (pair 0 0))) n (omega arith)
-    (λ i j before order high number numbered all k within. elim (cases_lt k (length before)) [
-      | inl less ↦ subst (IsPairAt n k) (sym (get_or_append_left before (pair i j ∷ []) (pair 0 0) k less)) (all k less)
-      | inr more ↦
-          let last : k ≡ length before = omega (arith, within, more, length-append before (pair i j ∷ [])) in
-          subst (IsPairAt n k) (sym (get_or_push before (pair i j) (pair 0 0) k (sym last)))
-          (record { order = order; high = high; number = sym number ∙ sym last })
-    ])
-    (λ k within. absurd (omega (arith, within))) k below
 
 -- share i itself is left out,
 pub others-same : (i m : ℕ) → i ≡ m → others i (suc m) ≡ others i m

@@ -44,10 +44,6 @@ all_digits ds i value led done small e =
     let below : nat_lt (valued 0 ds) (2 ^ 32) ≡ true = lt-ltb (valued 0 ds) (2 ^ 32) (omega (arith, is)) in
     rw (led, below) (ap (λ (n : ℕ). Some n) (sym is))
 
-pub no_lead : (ds : List ℕ) → leads ds ≡ false → number_by ds ≡ None
-unfolding number_by
-no_lead ds e = rw e refl
-
 -- ---- images
 
 abbrev pub Images : Type 0

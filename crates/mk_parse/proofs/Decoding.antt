@@ -1,13 +1,13 @@
 -- What numbers, elements and words say.
-use Rattle.std.proofs.Common.{◌≡◌, ℕ, zero, suc, ◌+◌, ◌*◌, ◌-◌, ◌^◌, ◌<◌, ◌≤◌, Bool, true, false, List, [], ◌∷◌, ◌++◌, length, drop, get_or, Some, refl, sym, ap, subst, ◌∙◌, arith, rules, add-one, drop-cons, drop_of_length-le}
-use Rattle.std.specs.Prelude.{codes, Contains, bytes_eq, IsTrue, ◌↔◌, decimal, ◌&&◌}
+use Rattle.std.proofs.Common.{◌≡◌, ℕ, zero, suc, ◌+◌, ◌*◌, ◌-◌, ◌^◌, ◌<◌, ◌≤◌, Bool, true, false, List, [], ◌∷◌, length, drop, get_or, refl, sym, ap, subst, ◌∙◌, arith, rules, add-one, drop-cons, drop_of_length-le}
+use Rattle.std.specs.Prelude.{Contains, bytes_eq, IsTrue, ◌↔◌, decimal, ◌&&◌}
 use Rattle.std.specs.Char.{is_ascii_digit}
 use Rattle.std.specs.Str.{all_ascii_digits}
 use Rattle.std.proofs.lemmas.Bool.{and_parts, false≢true}
 use Rattle.std.proofs.lemmas.Str.Parse.{IsNumeralModel, numerals_by_fold}
 use Rattle.std.proofs.lemmas.Fmt.{digits_decimal, digits_value-decimal, decimal-digits_value, decimal_nonempty, first_decimal, decimal_digit}
 use Rattle.std.proofs.lemmas.Slice.Eq.{bytes_eq-Decides}
-use Rattle.mk_ast.specs.Tokens.{IsNumber, IsElement, hex_value, reserved}
+use Rattle.mk_ast.specs.Tokens.{IsNumber, reserved}
 
 -- the number that digits make, behind those that make n
 unfoldable pub valued : ℕ → List ℕ → ℕ
@@ -75,16 +75,3 @@ number_end t i value done all same some led small =
 -- a word that equals the one of this number is reserved
 pub reserved_at : (k : ℕ) (word literal : List ℕ) (equal : Bool) → k < 11 → equal ≡ bytes_eq word literal → literal ≡ get_or reserved k word → equal ≡ true → IsTrue true ↔ Contains reserved word
 reserved_at k word literal equal lt is same held = (λ _. (k, lt, sym ((bytes_eq-Decides word literal).0 (sym is ∙ held) ∙ same)), λ _. refl)
-
--- a text is the text of at most one element
-pub element_unique : (v w : ℕ) (t : List ℕ) → IsElement v t → IsElement w t → v ≡ w
-element_unique v w t (c, d, high, low, is, a, b, value) (c', d', high', low', is', a', b', value') =
-    let same : codes "0x" ++ c ∷ d ∷ [] ≡ codes "0x" ++ c' ∷ d' ∷ [] = sym is ∙ is' in
-    let first : c ≡ c' = cc in
-    let second : d ≡ d' = cc in
-    let highs : high ≡ high' = some_same (sym a ∙ ap hex_value first ∙ a') in
-    let lows : low ≡ low' = some_same (sym b ∙ ap hex_value second ∙ b') in
-    omega arith
-  where
-    some_same : {x y : ℕ} → Some x ≡ Some y → x ≡ y
-    some_same e = cc

@@ -86,8 +86,3 @@ so_far_more false front b gap h = elim (cases_Bool (b == 35)) [
     blank : (false ≡ true) ⊎ ((is_blank b || b == 35) ≡ true) → (b == 35) ≡ false → is_blank b ≡ true
     blank (inl never) other = absurd (false≢true never)
     blank (inr held) other = elim (or_cases (is_blank b) (b == 35) held) [ inl it ↦ it | inr hash ↦ absurd (both_ways (b == 35) other hash) ]
-
--- so far a gap, with which the text ends, is a last gap
-pub so_far_last : (comment : Bool) (front : List ℕ) → IsSoFar comment front → IsGap front ⊎ IsLastGap front
-so_far_last true front ended = inr (ended (10 ∷ []) (inl (refl, tt)))
-so_far_last false front gap = inl gap

@@ -3,7 +3,7 @@ use Rattle.std.proofs.Common.{◌≡◌, ℕ, ◌+◌, ◌-◌, ◌<◌, ◌≤�
 use Rattle.std.specs.Prelude.{map, All, ◌==◌}
 use Rattle.std.proofs.lemmas.List.{drop-drop, drop_all, take_at, take-append-drop, map_push, append-nil}
 use Rattle.std.proofs.lemmas.Bool.{eqb-true, eq-eqb, both_ways}
-use Rattle.std.proofs.lemmas.List.Elements.{All-nil, All-push}
+use Rattle.std.proofs.lemmas.List.Elements.{All-push}
 use Rattle.std.proofs.Math.Seq.{take-add}
 use Rattle.mk_base.specs.declared.Place.{Place}
 use Rattle.mk_ast.specs.Tokens.{Token as Spelled, IsToken, IsGap, IsLastGap, Next, BeginsWith, AreTokens, place_behind, place_of}
@@ -89,10 +89,6 @@ pub record Reached (text : List ℕ) (tokens : List Token) (index : ℕ) (at : P
   pub begins : NoGapBegins (drop index text)
   pub within : All (IsWithin text) tokens
   pub spans : AreSpans text 0 tokens
-
--- the gap that a text begins with
-pub reached_start : (text : List ℕ) (index : ℕ) (at : Place) → IsPlaced text index at → IsGapBetween text 0 index → NoGapBegins (drop index text) → Reached text [] index at
-reached_start text index at placed gap begins = record { placed = placed; before = refl; gap = gap; begins = begins; within = All-nil (IsWithin text); spans = tt }
 
 -- a gap before a token is no last one
 gap_before : (text : List ℕ) (e i : ℕ) (kind : TokenKind) (j : ℕ) → IsGapBetween text e i → IsTokenBetween text i kind j → IsGap (take (i - e) (drop e text))
@@ -243,11 +239,6 @@ lexed_whole text tokens at whole l is = record {
 pub begins_split : (text left : List ℕ) (ts us : List Spelled) (rest : List ℕ) → BeginsWith text left (ts ++ us) rest → (mid : List ℕ) × BeginsWith text left ts mid × BeginsWith text mid us rest
 begins_split text left [] us rest h = (left, refl, h)
 begins_split text left (t ∷ ts) us rest h = let after = begins_split text h.0 ts us rest h.2 in (after.0, (h.0, h.1, after.1), after.2)
-
--- tokens and others behind them
-pub begins_append : (text left : List ℕ) (ts : List Spelled) (mid : List ℕ) (us : List Spelled) (rest : List ℕ) → BeginsWith text left ts mid → BeginsWith text mid us rest → BeginsWith text left (ts ++ us) rest
-begins_append text left [] mid us rest p q = subst (λ (l : List ℕ). BeginsWith text l us rest) (sym p) q
-begins_append text left (t ∷ ts) mid us rest p q = (p.0, p.1, begins_append text p.0 ts mid us rest p.2 q)
 
 -- What stands before a token that comes behind others: a gap, and then, at its place, its bytes.
 pub record StandsAfter (text : List ℕ) (tokens : List Spelled) (token : Spelled) : Type 0 where

@@ -10,14 +10,7 @@ use Rattle.mk_parse.specs.declared.cursor.Stop.TheVariants.{Here, Memory}
 use Rattle.mk_parse.specs.Answers.{Answers}
 use Rattle.mk_parse.proofs.ReaderLaws.{Reads, BeginsBy, read, bind_ok, ok_same}
 
--- what a reader leaves is no longer than what it had
-pub no_longer : {A : Type 0} {reader : Reader A} {phrase : Phrase A} {goes_on : Token → Bool} → Reads reader phrase goes_on
-    → (ts : List Token) (a : A) (rest : List Token) → reader ts ≡ Ok (a, rest) → length rest ≤ length ts
-no_longer reads ts a rest e =
-    let found = reads.found ts a rest e in
-    omega (arith, ap length found.parts, length-append found.taken rest)
-
--- and shorter, where the phrase has at least one token
+-- what a reader leaves is shorter than what it had, where the phrase has at least one token
 pub shorter : {A : Type 0} (test : Token → Bool) {reader : Reader A} {phrase : Phrase A} {goes_on : Token → Bool} → Reads reader phrase goes_on → BeginsBy test phrase
     → (ts : List Token) (a : A) (rest : List Token) → reader ts ≡ Ok (a, rest) → length rest < length ts
 shorter test reads begins ts a rest e =
@@ -36,16 +29,6 @@ pub record Going {A : Type 0} (test : Token → Bool) (reader : Reader A) (front
   pub rest : behind front (repeats test reader fuel ts) ≡ total
 
 module _ {A : Type 0} (test : Token → Bool) (reader : Reader A) where
-  nothing_before : (r : Reading (List A)) → behind [] r ≡ r
-  nothing_before (Ok x) = refl
-  nothing_before (Err bad) = refl
-
-  pub going_start : (ts : List Token) → Going test reader [] ts (every test reader ts)
-  going_start ts = record { fuel = length ts; enough = omega arith; rest = nothing_before (every test reader ts) }
-
-  pub going_first : (a : A) (ts : List Token) → Going test reader (a ∷ []) ts (makes (λ xs. a ∷ xs) (every test reader) ts)
-  going_first a ts = record { fuel = length ts; enough = omega arith; rest = refl }
-
   one_more : (front : List A) (a : A) (r : Reading (List A)) → behind front (r >>= (λ y. read (List A) (a ∷ y.0, y.1))) ≡ behind (front ++ a ∷ []) r
   one_more front a (Ok x) = ap (λ (l : List A). read (List A) (l, x.1)) (sym (append_assoc front (a ∷ []) x.0))
   one_more front a (Err bad) = refl

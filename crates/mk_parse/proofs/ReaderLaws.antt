@@ -95,16 +95,6 @@ pub same_head : (front rest other : List Token) → SameHead rest other → Same
 same_head [] rest other s = s
 same_head (t ∷ ts) rest other s = refl
 
-pub same_head_nil : (other : List Token) → SameHead [] other → other ≡ []
-same_head_nil [] s = refl
-same_head_nil (t ∷ ts) s = absurd s
-
-pub stops_same : (goes_on : Token → Bool) (rest other : List Token) → SameHead rest other → Stops goes_on rest → Stops goes_on other
-stops_same goes_on [] [] s h = tt
-stops_same goes_on [] (u ∷ us) s h = absurd s
-stops_same goes_on (t ∷ ts) [] s h = absurd s
-stops_same goes_on (t ∷ ts) (u ∷ us) s h = ap goes_on (sym s) ∙ h
-
 pub starts_same : (test : Token → Bool) (rest other : List Token) → SameHead rest other → starts test other ≡ starts test rest
 starts_same test [] [] s = refl
 starts_same test [] (u ∷ us) s = absurd s

@@ -1,5 +1,5 @@
 -- The tests of names, numbers, sizes and elements, and how their first bytes tell them apart.
-use Rattle.std.proofs.Common.{◌≡◌, ◌≢◌, ℕ, zero, suc, ◌+◌, ◌*◌, ◌≤◌, ◌<◌, Bool, true, false, ◌||◌, List, [], ◌∷◌, ◌++◌, length, Option, Some, None, Ok, Err, nat_lt, refl, sym, ap, ◌∙◌, arith, cond}
+use Rattle.std.proofs.Common.{◌≡◌, ◌≢◌, ℕ, zero, suc, ◌+◌, ◌*◌, ◌<◌, Bool, true, false, ◌||◌, List, [], ◌∷◌, ◌++◌, length, Option, Some, None, Ok, Err, nat_lt, refl, sym, ap, ◌∙◌, arith, cond}
 use Rattle.std.specs.Prelude.{codes, decimal, bytes_eq, Contains, IsTrue, ◌↔◌, MatchOption, ◌&&◌, not}
 use Rattle.std.specs.List.{AllByRecursion}
 use Rattle.std.specs.Char.{is_ascii_digit}
@@ -238,10 +238,6 @@ word_by r text h = same_truth r (is_word text) (λ e. word_complete text (h.0 e)
 
 pub reserved_by : (r : Bool) (text : List ℕ) → IsTrue r ↔ Contains reserved text → r ≡ is_among reserved text
 reserved_by r text h = same_truth r (is_among reserved text) (λ e. among_complete reserved text (h.0 e)) (λ e. h.1 (among_sound reserved text e))
-
-pub short_word : (text : List ℕ) → IsWord text → length text ≤ 64
-short_word [] h = absurd h
-short_word (b ∷ bs) h = omega (arith, h.2)
 
 -- ---- a name at the head of a list
 

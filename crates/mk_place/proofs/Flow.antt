@@ -7,7 +7,7 @@ use Rattle.mk_ssa.specs.Kinds.{Kind, Public, Linear, Strong}
 use Rattle.mk_place.specs.declared.need.Place.{Place}
 use Rattle.mk_place.specs.Uses.{Use}
 use Rattle.mk_place.specs.Needs.{added, brought_by, brought, with_use, needs_by, mark_by, marks_by}
-use Rattle.mk_place.proofs.Joining.{none-in, only-in, in-cases, in-front, in-behind, and-parts, clash-at, added-left, added-right, added-from}
+use Rattle.mk_place.proofs.Joining.{none-in, only-in, in-cases, in-front, and-parts, clash-at, added-left, added-right, added-from}
 
 -- a use of this value
 pub with_use-own : (inputs : ℕ) (needs : ℕ → List Place) (u : Use) (v : ℕ) → v ≡ u.operand
@@ -102,15 +102,6 @@ module _ (inputs : ℕ) where
   pub comes-all : (front us : List Use) (v : ℕ) (p : Place) → Contains (needs_by inputs us v) p → Contains (needs_by inputs (front ++ us) v) p
   comes-all [] us v p held = held
   comes-all (x ∷ front) us v p held = comes-behind x (front ++ us) v p (comes-all front us v p held)
-
-  -- uses of other values bring nothing
-  pub passed : (front us : List Use) (w : ℕ) → ((x : Use) → Contains front x → w ≡ x.operand → ⊥)
-      → needs_by inputs (front ++ us) w ≡ needs_by inputs us w
-  passed [] us w apart = refl
-  passed (x ∷ front) us w apart =
-      needs-cons inputs x (front ++ us) w
-      ∙ with_use-other inputs (needs_by inputs (front ++ us)) x w (apart x (in-front x front))
-      ∙ passed front us w (λ y held. apart y (in-behind x front y held))
 
   -- what a use brings has no two places of one product, if needs haven't
   brought-alone : (kind : Kind) (here : Place) (own : List Place) (p q : Place)

@@ -1,10 +1,10 @@
 -- The layout of values by the marks of the pass.
-use Rattle.std.proofs.Common.{◌≡◌, ℕ, zero, suc, ◌+◌, ◌-◌, ◌<◌, ◌≤◌, true, false, Some, IsSome, List, [], ◌∷◌, ◌++◌, length, take, drop, map, slice_get, get_or, refl, sym, ◌∙◌, ap, ap₂, subst, arith, inl, inr, append_assoc}
+use Rattle.std.proofs.Common.{◌≡◌, ℕ, zero, suc, ◌+◌, ◌-◌, ◌<◌, ◌≤◌, true, false, Some, IsSome, List, [], ◌∷◌, ◌++◌, length, take, drop, map, slice_get, get_or, refl, sym, ◌∙◌, ap, ap₂, subst, arith, inl, inr}
 use Rattle.std.specs.List.{All, Contains}
 use Rattle.std.proofs.lemmas.List.Elements.{All-contains}
 use Rattle.std.proofs.lemmas.Bool.{cases_eq, false≢true}
 use Rattle.std.proofs.lemmas.Option.{slice_get_within}
-use Rattle.std.proofs.lemmas.List.{length-take-le, map-append, take_more, take_all}
+use Rattle.std.proofs.lemmas.List.{length-take-le, take_all}
 use Rattle.mk_ssa.specs.declared.Op.{Op}
 use Rattle.mk_ssa.specs.declared.Op.TheVariants.{Const, PubAdd, PubMul, PubSq, PubMap, Lift, Add, AddPub, Scale, Sq, Map, Mul, Refresh}
 use Rattle.mk_ssa.specs.declared.Operand.{Operand}
@@ -155,16 +155,6 @@ map-same : {X Y : Type 0} (f g : X → Y) (xs : List X) → ((x : X) → Contain
 map-same f g [] same = refl
 map-same f g (x ∷ xs) same =
     ap₂ (λ y ys. y ∷ ys) (same x (in-front x xs)) (map-same f g xs (λ y held. same y (in-behind x xs y held)))
-
--- a claim more
-pub claims-more : (names : List ℕ) (old claims items : List Operand) (i : ℕ) (d : Operand) → i < length items
-    → claims ≡ old ++ map (named names) (take i items)
-    → claims ++ named names (get_or items i d) ∷ [] ≡ old ++ map (named names) (take (i + 1) items)
-claims-more names old claims items i d below same =
-    ap (λ (xs : List Operand). xs ++ named names (get_or items i d) ∷ []) same
-    ∙ append_assoc old (map (named names) (take i items)) (named names (get_or items i d) ∷ [])
-    ∙ ap (λ (xs : List Operand). old ++ xs)
-    (sym (map-append (named names) (take i items) (get_or items i d ∷ [])) ∙ ap (map (named names)) (sym (take_more items i d below)))
 
 -- the certificate in the end
 pub laid-all : (s : Values) (is : IsValues s) (cert : Claimed) (blocks : List Op) (names : List ℕ) → IsLaid (all_marks s) s.values (length s.values) blocks names

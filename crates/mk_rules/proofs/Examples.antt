@@ -10,8 +10,11 @@ use Rattle.mk_rules.specs.Wired.{IsSharedThere}
 use Rattle.mk_rules.specs.Reaches.{links, IsPath, Reaches, Undoubled}
 use Rattle.mk_rules.specs.Accepts.{Accepts}
 use Rattle.mk_rules.specs.Examples.{sum_cert, plain_square, fresh_square}
-use Rattle.mk_rules.specs.Sums.{IsSum}
-use Rattle.mk_rules.proofs.Sums.{Undoubled-sums}
+
+-- a sum is not strong, so it doubles nothing
+byte_sum-undoubled : Undoubled 2 (links byte_sum sum_cert.blocks)
+byte_sum-undoubled v zero first second = let no : Linear ≡ Strong = first.strong.0 in absurd (cc)
+byte_sum-undoubled v (suc s) first second = absurd first.strong
 
 -- the rule accepts the sum of two bytes, whatever the gadgets are
 pub byte_sum-accepted : (product refresh : Gadget) → Accepts byte_sum product refresh sum_cert
@@ -20,7 +23,7 @@ byte_sum-accepted product refresh = record {
   wired = ((omega arith, omega arith), tt);
   tiles = refl;
   outputs = record { there = All-from_recursion (IsSharedThere byte_sum sum_cert.blocks) sum_cert.claims (refl, tt); outs = refl };
-  undoubled = Undoubled-sums byte_sum 2 sum_cert.blocks (All-from_recursion IsSum sum_cert.blocks (tt, tt));
+  undoubled = byte_sum-undoubled;
 }
 
 -- the secret reaches both places of its product with itself

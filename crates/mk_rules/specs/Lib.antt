@@ -4,6 +4,5 @@ pub mod Wired
 pub mod Reaches
 pub mod Accepts
 pub mod Places
-pub mod Sums
 pub mod Examples
 pub mod Privacy

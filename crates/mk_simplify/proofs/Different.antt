@@ -1,16 +1,16 @@
 -- Different values have different trees.
 use Rattle.std.proofs.Common.{◌≡◌, ℕ, zero, suc, ◌≤◌, ◌<◌, List, [], ◌∷◌, length, slice_get, get_or, Some, true, false, refl, sym, ◌∙◌, ap, arith}
-use Rattle.std.specs.List.{AllByRecursion, Contains}
+use Rattle.std.specs.List.{AllByRecursion}
 use Rattle.std.proofs.lemmas.Option.{slice_get-get_or}
 use Rattle.mk_ssa.specs.declared.Op.{Op}
 use Rattle.mk_ssa.specs.declared.Op.TheVariants.{Const}
 use Rattle.mk_ssa.specs.declared.Operand.{Operand}
 use Rattle.mk_ssa.specs.declared.Operand.TheVariants.{Secret, Public, Block}
 use Rattle.mk_ssa.specs.Operators.{operands}
-use Rattle.mk_simplify.specs.Trees.{Tree, tree_by, trees, tree_of}
+use Rattle.mk_simplify.specs.Trees.{Tree, tree_by, tree_of}
 use Rattle.mk_simplify.specs.Renumbering.{OnValue, IsBelow, AreEarlier}
 use Rattle.mk_simplify.proofs.Operators.{same-op}
-use Rattle.mk_simplify.proofs.Trees.{tree_by-root, tree_by-kids, tree_of-at, length-trees, is_input, is_input-at, is_input-input, map-injective, AllByRecursion-weaker}
+use Rattle.mk_simplify.proofs.Trees.{tree_by-root, tree_by-kids, tree_of-at, is_input, is_input-at, is_input-input, map-injective, AllByRecursion-weaker}
 
 -- true isn't false
 pub true-not_false : true ≡ false → ⊥
@@ -27,13 +27,6 @@ pub get_or-within : {X : Type 0} (xs : List X) (k : ℕ) (d e : X) → k < lengt
 get_or-within [] k d e below = absurd (omega (arith, below))
 get_or-within (x ∷ xs) zero d e below = refl
 get_or-within (x ∷ xs) (suc k) d e below = get_or-within xs k d e (omega (arith, below))
-
--- the tree at a place
-pub tree-contained : (ops : List Op) (k : ℕ) → k < length ops → Contains (trees ops) (tree_of ops (Block k))
-tree-contained ops k below =
-    let within : k < length (trees ops) = omega (arith, length-trees ops, below) in
-    let t = tree_of ops (Block k) in
-    (k, within, get_or-within (trees ops) k t (Tree.Input (Block k)) within)
 
 -- the operand that an input is
 operand_in : Tree → Operand

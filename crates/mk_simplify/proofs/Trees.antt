@@ -85,11 +85,6 @@ pub AllByRecursion-weaker : {X : Type 0} (P Q : X → Type 0) (xs : List X) → 
 AllByRecursion-weaker P Q [] weaker all = tt
 AllByRecursion-weaker P Q (x ∷ xs) weaker all = (weaker x all.0, AllByRecursion-weaker P Q xs weaker all.1)
 
--- what holds of each image
-pub AllByRecursion-map : {X Y : Type 0} (P : Y → Type 0) (f : X → Y) (xs : List X) → AllByRecursion (λ x. P (f x)) xs → AllByRecursion P (map f xs)
-AllByRecursion-map P f [] all = tt
-AllByRecursion-map P f (x ∷ xs) all = (all.0, AllByRecursion-map P f xs all.1)
-
 -- the tree of an operator, where the trees of its operands are the same
 pub tree_by-same : (f g : Operand → Tree) (x : Op) → AllByRecursion (λ v. f v ≡ g v) (operands x) → tree_by f x ≡ tree_by g x
 tree_by-same f g x same = ap (over (operator x)) (map-same f g (operands x) same)

@@ -1,16 +1,13 @@
 -- One value more is worked out, and in the end all are.
-use Rattle.std.proofs.Common.{◌≡◌, ℕ, ◌+◌, ◌<◌, List, [], ◌∷◌, ◌++◌, All, length, take, take_all, slice_get, Some, false, refl, sym, ◌∙◌, ap, arith}
+use Rattle.std.proofs.Common.{◌≡◌, ℕ, ◌+◌, ◌<◌, List, [], ◌∷◌, ◌++◌, All, length, take, slice_get, Some, refl, sym, ◌∙◌, ap, arith}
 use Rattle.std.proofs.lemmas.List.{length-append, take_more}
 use Rattle.std.proofs.lemmas.List.Elements.{All-push, All-nil}
 use Rattle.mk_field.specs.Field.{size}
 use Rattle.mk_ssa.specs.declared.Op.{Op}
-use Rattle.mk_ssa.specs.declared.Operand.{Operand}
-use Rattle.mk_ssa.specs.declared.Operand.TheVariants.{Secret, Public, Block}
-use Rattle.mk_ssa.specs.Kinds.{is_public}
-use Rattle.mk_ssa.specs.Values.{Values, IsSharedThere, draft}
+use Rattle.mk_ssa.specs.Values.{Values}
 use Rattle.mk_ssa.specs.Denoted.{value_of, values_of, in_order}
-use Rattle.mk_ssa.specs.Evaluation.{Evaluated, IsEvaluated, HasValue, next_value}
-use Rattle.mk_ssa.proofs.Lists.{IsSomeAnd-value, slice_get-at}
+use Rattle.mk_ssa.specs.Evaluation.{Evaluated, IsEvaluated, next_value}
+use Rattle.mk_ssa.proofs.Lists.{slice_get-at}
 use Rattle.mk_ssa.proofs.InOrder.{in_order-push}
 
 -- no value is worked out
@@ -53,19 +50,3 @@ IsEvaluated-step e op a so_far at is element =
       secret_elements = so_far.secret_elements;
       elements = All-push (λ x. x < size e.ssa.field) e.before a so_far.elements element;
     }
-
--- when all are worked out, they are what the values stand for
-pub values-all : (e : Evaluated) → IsEvaluated e → length e.before ≡ length e.ssa.values
-    → e.before ≡ values_of e.ssa.field e.ssa.maps e.publics e.secrets e.ssa.values
-values-all e done all =
-    done.before ∙ ap (values_of e.ssa.field e.ssa.maps e.publics e.secrets)
-    (ap (λ (n : ℕ). take n e.ssa.values) all ∙ take_all (length e.ssa.values) e.ssa.values (omega arith))
-
--- then there is an element for each shared operand
-pub HasValue-shared : (e : Evaluated) (v : Operand) → IsEvaluated e → length e.before ≡ length e.ssa.values
-    → IsSharedThere (draft e.ssa) v → HasValue e v
-HasValue-shared e (Secret k) done all there = omega (arith, done.secrets, there)
-HasValue-shared e (Public k) done all there = absurd there
-HasValue-shared e (Block k) done all there =
-    let at = IsSomeAnd-value (slice_get e.ssa.values k) (λ x. is_public x ≡ false) there in
-    omega (arith, all, (slice_get-at e.ssa.values k at.0 at.0 at.1).0)

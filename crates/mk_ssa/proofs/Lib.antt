@@ -2,5 +2,4 @@ pub mod Lists
 pub mod There
 pub mod InOrder
 pub mod Evaluations
-pub mod Elements
 mod Examples

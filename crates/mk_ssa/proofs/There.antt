@@ -1,5 +1,5 @@
 -- What is there stays there when values come behind, and a value that fits makes the values one more.
-use Rattle.std.proofs.Common.{◌≡◌, ℕ, List, [], ◌∷◌, ◌++◌, inl, inr, length, take, slice_get, true, false, sym, subst, arith}
+use Rattle.std.proofs.Common.{◌≡◌, ℕ, List, [], ◌∷◌, ◌++◌, inl, inr, length, slice_get, true, false, sym, subst, arith}
 use Rattle.std.proofs.lemmas.List.{take-append-le}
 use Rattle.std.proofs.Math.Seq.{take-append_seam}
 use Rattle.mk_ssa.specs.declared.Op.{Op}
@@ -7,7 +7,7 @@ use Rattle.mk_ssa.specs.declared.Operand.{Operand}
 use Rattle.mk_ssa.specs.declared.Operand.TheVariants.{Secret, Public, Block}
 use Rattle.mk_ssa.specs.Kinds.{is_public}
 use Rattle.mk_ssa.specs.Values.{Draft, IsDraft, IsSharedThere, IsPublicThere, Fits, front, pushed}
-use Rattle.mk_ssa.proofs.Lists.{IsSomeAnd-value, IsSomeAnd-from, slice_get-front, slice_get-more, slice_get-last, slice_get-cases}
+use Rattle.mk_ssa.proofs.Lists.{IsSomeAnd-value, IsSomeAnd-from, slice_get-more, slice_get-last, slice_get-cases}
 
 -- a shared operand that is there stays there
 pub IsSharedThere-pushed : (d : Draft) (op : Op) (v : Operand) → IsSharedThere d v → IsSharedThere (pushed d op) v
@@ -34,14 +34,6 @@ IsSharedThere-last d op shared =
 pub IsPublicThere-last : (d : Draft) (op : Op) → is_public op ≡ true → IsPublicThere (pushed d op) (Block (length d.values))
 IsPublicThere-last d op public =
     IsSomeAnd-from (slice_get (d.values ++ op ∷ []) (length d.values)) (λ x. is_public x ≡ true) op (slice_get-last d.values op) public
-
--- what is there among the first values is there among all
-pub IsSharedThere-front : (d : Draft) (n : ℕ) (v : Operand) → IsSharedThere (front d n) v → IsSharedThere d v
-IsSharedThere-front d n (Secret k) there = there
-IsSharedThere-front d n (Public k) there = there
-IsSharedThere-front d n (Block k) there =
-    let at = IsSomeAnd-value (slice_get (take n d.values) k) (λ x. is_public x ≡ false) there in
-    IsSomeAnd-from (slice_get d.values k) (λ x. is_public x ≡ false) at.0 (slice_get-front d.values n k at.0 at.1).1 at.2
 
 -- a value that fits behind the others makes them one more
 pub IsDraft-pushed : (d : Draft) (op : Op) → IsDraft d → Fits d op → IsDraft (pushed d op)

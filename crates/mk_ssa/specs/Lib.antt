@@ -2,5 +2,4 @@ pub mod Kinds
 pub mod Operators
 pub mod Values
 pub mod Denoted
-pub mod Elements
 pub mod Evaluation

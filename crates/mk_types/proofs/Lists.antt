@@ -1,16 +1,13 @@
 -- Lists through functions, and what is noted of two lists.
-use Rattle.std.proofs.Common.{◌≡◌, ℕ, ◌-◌, length, take, length-append, append_assoc, arith, Bool, ◌||◌, List, [], ◌∷◌, ◌++◌, Option, map, flat_map, refl, sym, ap, ◌∙◌}
+use Rattle.std.proofs.Common.{◌≡◌, append_assoc, Bool, ◌||◌, List, [], ◌∷◌, ◌++◌, Option, map, flat_map, refl, sym, ap, ◌∙◌}
 use Rattle.std.proofs.lemmas.List.Sums.{fold-append}
 use Rattle.std.proofs.lemmas.List.Folds.{list_any-append}
 use Rattle.std.specs.List.{list_any}
 use Rattle.mk_types.specs.declared.offence.Offence.{Offence}
-use Rattle.mk_types.specs.Scope.{Scope, inside}
-use Rattle.mk_types.specs.Outside.{outside}
 use Rattle.mk_types.specs.Offences.{decl_offences, decls_offences}
 use Rattle.mk_ast.specs.declared.tree.Decl.{Decl}
 use Rattle.mk_field.specs.declared.field.FieldId.{FieldId}
 use Rattle.std.proofs.lemmas.List.{append-nil}
-use Rattle.std.proofs.Math.Seq.{take-append_seam}
 use Rattle.mk_types.specs.Noted.{earliest, noted}
 
 -- a test of what a function gives
@@ -26,12 +23,6 @@ list_any_flat_map p f (x ∷ xs) = list_any-append p (f x) (flat_map f xs) ∙ a
 -- what is noted of these and then of those
 pub noted_append : (o : Option Offence) (xs ys : List Offence) → noted o (xs ++ ys) ≡ noted (noted o xs) ys
 noted_append o xs ys = fold-append earliest o xs ys
-
--- the loop that was gone into is the innermost one
-pub outside_inside : (s : Scope) (name : List ℕ) → outside (inside s name) ≡ s
-outside_inside s name =
-    let len : length (s.loops ++ name ∷ []) - 1 ≡ length s.loops = omega (arith, length-append {A = List ℕ}) in
-    ap (λ loops. record { field = s.field; decls = s.decls; loops = loops }) (ap (λ n. take n (s.loops ++ name ∷ [])) len ∙ take-append_seam s.loops (name ∷ []))
 
 -- the offences of declarations and one more
 decls-append : (field : FieldId) (earlier : List Decl) (xs : List Decl) (d : Decl) →

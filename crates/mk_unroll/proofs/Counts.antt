@@ -1,6 +1,6 @@
--- How many values a program is unrolled to: one for each operation, at most one lift for each step and one
--- more, and at most one constant for each unit of work and one more.
-use Rattle.std.proofs.Common.{◌≡◌, ℕ, ◌+◌, ◌*◌, ◌≤◌, Bool, true, false, not, ◌&&◌, cond, List, [], ◌∷◌, ◌++◌, None, map, flat_map, length, refl, sym, subst, arith}
+-- How many operators and lifts a program is unrolled to: one operator for each operation, and at most one
+-- lift for each step and one more.
+use Rattle.std.proofs.Common.{◌≡◌, ℕ, ◌+◌, ◌≤◌, Bool, true, false, not, ◌&&◌, cond, List, [], ◌∷◌, ◌++◌, None, map, flat_map, refl, sym, subst, arith}
 use Rattle.std.specs.Prelude.{fold}
 use Rattle.std.specs.List.{AllByRecursion}
 use Rattle.std.proofs.lemmas.List.Sums.{sum_by-cons}
@@ -11,7 +11,7 @@ use Rattle.mk_ast.specs.declared.tree.Ref.{Ref}
 use Rattle.mk_ast.specs.declared.tree.Expr.{Expr}
 use Rattle.mk_ast.proofs.Induction.{stmt_induction}
 use Rattle.mk_ssa.specs.declared.Op.{Op}
-use Rattle.mk_ssa.specs.declared.Op.TheVariants.{Const, PubAdd, PubMul, PubSq, PubMap, Lift, Add, AddPub, Scale, Sq, Map, Mul, Refresh}
+use Rattle.mk_ssa.specs.declared.Op.TheVariants.{Lift}
 use Rattle.mk_types.specs.Scope.{declared, is_variable, is_shared_class}
 use Rattle.mk_types.specs.Turns.{Turn, in_turn, turn_numbers}
 use Rattle.mk_types.specs.Units.{WorkUnit, Step, reference_units, expr_units, turn_units, stmt_units, units}
@@ -19,29 +19,27 @@ use Rattle.mk_types.specs.Stops.{is_work, is_operation, work, operations, stop}
 use Rattle.mk_types.proofs.ExecutionLayers.{units-Set, units-Loop}
 use Rattle.mk_types.proofs.Faults.{units_are_all, work_at_most, operations_at_most}
 use Rattle.mk_unroll.specs.Unrolled.{Given, Unrolling, is_shared_operand, appended, expr_given, assigned, stmt_unrolled, first_unrolling, unrolled}
-use Rattle.mk_unroll.specs.ValueCounts.{is_made, is_lift, is_constant, made, lifts, constants}
+use Rattle.mk_unroll.specs.ValueCounts.{is_made, is_lift, made, lifts}
 use Rattle.mk_unroll.proofs.IndexUnits.{operations-append, work-append, operations-work, operations-reference}
 use Rattle.mk_unroll.proofs.UnrolledLayers.{unrolled-Set, unrolled-Loop}
 use Rattle.mk_unroll.proofs.CountsExpr.{count_push, expr_appends}
 
--- behind these values stand as many more as these units have operations, at most one lift for each step, and
--- at most one constant for each step and operation
+-- behind these values stand as many more operators as these units have operations, and at most one lift for
+-- each step
 record Limited (before after : List Op) (us : List WorkUnit) : Type 0 where
   made : made after ≡ made before + operations us
   lifts : lifts after + operations us ≤ lifts before + work us
-  constants : constants after ≤ constants before + work us
 
 -- some values and then more
 limited_on : (a b c : List Op) (us vs : List WorkUnit) → Limited a b us → Limited b c vs → Limited a c (us ++ vs)
 limited_on a b c us vs first second = record {
   made = omega (arith, first.made, second.made, operations-append us vs);
   lifts = omega (arith, first.lifts, second.lifts, operations-append us vs, work-append us vs);
-  constants = omega (arith, first.constants, second.constants, work-append us vs);
 }
 
 -- nothing more
 limited_none : (values : List Op) → Limited values values []
-limited_none values = record { made = omega arith; lifts = omega arith; constants = omega arith }
+limited_none values = record { made = omega arith; lifts = omega arith }
 
 -- one more step
 limited_step : (before after : List Op) (us : List WorkUnit) → Limited before after us → Limited before after (Step ∷ us)
@@ -51,23 +49,20 @@ limited_step before after us limited =
     record {
       made = omega (arith, limited.made, same);
       lifts = omega (arith, limited.lifts, same, one);
-      constants = omega (arith, limited.constants, one);
     }
 
 -- at most one lift more and nothing else
 record Lifts (before after : List Op) : Type 0 where
   made : made after ≡ made before
   lifts : lifts after ≤ lifts before + 1
-  constants : constants after ≡ constants before
 
 -- where something may be lifted
 lifted_counts : (test : Bool) (x : Given) → Lifts x.values (cond test (appended x.values (Lift x.operand)) x).values
 lifted_counts true x = record {
   made = omega (arith, count_push is_made x.values (Lift x.operand) false refl);
   lifts = omega (arith, count_push is_lift x.values (Lift x.operand) true refl);
-  constants = omega (arith, count_push is_constant x.values (Lift x.operand) false refl);
 }
-lifted_counts false x = record { made = refl; lifts = omega arith; constants = refl }
+lifted_counts false x = record { made = refl; lifts = omega arith }
 
 module _ (decls : List Decl) where
   -- what a statement appends
@@ -89,7 +84,6 @@ module _ (decls : List Decl) where
       record {
         made = omega (arith, grown.made, more.made, same, operations-append us vs, none);
         lifts = omega (arith, grown.lifts, more.lifts, same, one, operations-append us vs, work-append us vs, none, operations-work us);
-        constants = omega (arith, grown.constants, more.constants, one, work-append us vs, operations-work us);
       }
 
   -- what the statements of a turn append
@@ -156,10 +150,6 @@ unrolled_lifts_steps p ended = omega (arith, (program_appends p ended).lifts)
 pub unrolled_lifts : (p : Program) → stop (units p) ≡ None → lifts (unrolled p).values ≤ 1 + work (units p)
 unrolled_lifts p ended = omega (arith, unrolled_lifts_steps p ended)
 
--- the constants are at most one more than the units of work
-pub unrolled_constants : (p : Program) → stop (units p) ≡ None → constants (unrolled p).values ≤ 1 + work (units p)
-unrolled_constants p ended = omega (arith, (program_appends p ended).constants)
-
 -- at most 16,384 values are no constant and no lift
 pub unrolled_made_at_most : (p : Program) → stop (units p) ≡ None → made (unrolled p).values ≤ 16384
 unrolled_made_at_most p ended = omega (arith, unrolled_made p ended, operations_at_most p ended)
@@ -167,49 +157,3 @@ unrolled_made_at_most p ended = omega (arith, unrolled_made p ended, operations_
 -- at most 65,537 values are lifts
 pub unrolled_lifts_at_most : (p : Program) → stop (units p) ≡ None → lifts (unrolled p).values ≤ 65537
 unrolled_lifts_at_most p ended = omega (arith, unrolled_lifts p ended, work_at_most p ended)
-
--- at most 65,537 values are constants
-pub unrolled_constants_at_most : (p : Program) → stop (units p) ≡ None → constants (unrolled p).values ≤ 65537
-unrolled_constants_at_most p ended = omega (arith, unrolled_constants p ended, work_at_most p ended)
-
--- what a value counts as
-abbrev weight : Op → ℕ
-weight op = cond (is_made op) 1 0 + cond (is_lift op) 1 0 + cond (is_constant op) 1 0
-
--- each value is of one of the three kinds
-one_kind : (op : Op) → weight op ≡ 1
-one_kind (Const value) = refl
-one_kind (PubAdd left right) = refl
-one_kind (PubMul left right) = refl
-one_kind (PubSq arg) = refl
-one_kind (PubMap map arg) = refl
-one_kind (Lift arg) = refl
-one_kind (Add left right) = refl
-one_kind (AddPub left right) = refl
-one_kind (Scale left right) = refl
-one_kind (Sq arg) = refl
-one_kind (Map map arg) = refl
-one_kind (Mul left right) = refl
-one_kind (Refresh arg) = refl
-
--- all values are of these kinds
-length_kinds : (values : List Op) → length values ≡ made values + lifts values + constants values
-length_kinds [] = refl
-length_kinds (op ∷ values) =
-    omega (
-      arith,
-      length_kinds values,
-      one_kind op,
-      sum_by-cons (λ x. cond (is_made x) 1 0) op values,
-      sum_by-cons (λ x. cond (is_lift x) 1 0) op values,
-      sum_by-cons (λ x. cond (is_constant x) 1 0) op values,
-    )
-
--- all values are at most two for each unit of work and two more
-pub unrolled_length : (p : Program) → stop (units p) ≡ None → length (unrolled p).values ≤ 2 + 2 * work (units p)
-unrolled_length p ended =
-    omega (arith, length_kinds (unrolled p).values, unrolled_made p ended, unrolled_lifts_steps p ended, unrolled_constants p ended)
-
--- and so at most 131,074
-pub unrolled_length_at_most : (p : Program) → stop (units p) ≡ None → length (unrolled p).values ≤ 131074
-unrolled_length_at_most p ended = omega (arith, unrolled_length p ended, work_at_most p ended)

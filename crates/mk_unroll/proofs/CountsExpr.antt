@@ -1,6 +1,5 @@
--- How many values an expression appends: one for each operation, no lift, and at most one constant more than
--- it has operations.
-use Rattle.std.proofs.Common.{◌≡◌, ℕ, ◌+◌, ◌≤◌, Bool, true, false, cond, List, [], ◌∷◌, ◌++◌, map, flat_map, count_by, refl, sym, ap, subst, ◌∙◌, append_assoc, zero-add, arith}
+-- How many operators and lifts an expression appends: one operator for each operation, and no lift.
+use Rattle.std.proofs.Common.{◌≡◌, ℕ, ◌+◌, Bool, true, false, cond, List, [], ◌∷◌, ◌++◌, map, flat_map, count_by, refl, sym, ap, subst, ◌∙◌, append_assoc, zero-add, arith}
 use Rattle.std.proofs.lemmas.List.{append-nil}
 use Rattle.std.specs.Prelude.{fold}
 use Rattle.std.specs.List.{AllByRecursion}
@@ -20,46 +19,43 @@ use Rattle.mk_types.specs.Stops.{operations}
 use Rattle.mk_types.specs.Environment.{Environment}
 use Rattle.mk_types.proofs.ExecutionLayers.{units-Lit, units-Read, units-Sq, units-Apply, units-Sum, units-Product}
 use Rattle.mk_unroll.specs.Unrolled.{Given, is_shared_operand, sum_op, product_op, square_op, map_op, joined, joined_parts, expr_given}
-use Rattle.mk_unroll.specs.ValueCounts.{is_made, is_lift, is_constant, made, lifts, constants}
+use Rattle.mk_unroll.specs.ValueCounts.{is_made, is_lift, made, lifts}
 use Rattle.mk_unroll.proofs.IndexUnits.{operations-append, operations-reference}
 use Rattle.mk_unroll.proofs.UnrolledLayers.{given-Lit, given-Read, given-Sq, given-Apply, given-Sum, given-Product}
 
--- behind these values stand as many more as these units have operations, no more lifts, and at most one
--- constant more than these units have operations
+-- behind these values stand as many more operators as these units have operations, and no more lifts
 pub record Grown (before after : List Op) (us : List WorkUnit) : Type 0 where
   pub made : made after ≡ made before + operations us
   pub lifts : lifts after ≡ lifts before
-  pub constants : constants after ≤ constants before + 1 + operations us
 
 -- an operator on elements
 record IsOperator (op : Op) : Type 0 where
   made : is_made op ≡ true
   lift : is_lift op ≡ false
-  constant : is_constant op ≡ false
 
 -- a sum is one
 sum_made : (s t : Bool) (x y : Operand) → IsOperator (sum_op s t x y)
-sum_made true true x y = record { made = refl; lift = refl; constant = refl }
-sum_made true false x y = record { made = refl; lift = refl; constant = refl }
-sum_made false true x y = record { made = refl; lift = refl; constant = refl }
-sum_made false false x y = record { made = refl; lift = refl; constant = refl }
+sum_made true true x y = record { made = refl; lift = refl }
+sum_made true false x y = record { made = refl; lift = refl }
+sum_made false true x y = record { made = refl; lift = refl }
+sum_made false false x y = record { made = refl; lift = refl }
 
 -- a product is one
 product_made : (s t : Bool) (x y : Operand) → IsOperator (product_op s t x y)
-product_made true true x y = record { made = refl; lift = refl; constant = refl }
-product_made true false x y = record { made = refl; lift = refl; constant = refl }
-product_made false true x y = record { made = refl; lift = refl; constant = refl }
-product_made false false x y = record { made = refl; lift = refl; constant = refl }
+product_made true true x y = record { made = refl; lift = refl }
+product_made true false x y = record { made = refl; lift = refl }
+product_made false true x y = record { made = refl; lift = refl }
+product_made false false x y = record { made = refl; lift = refl }
 
 -- a square is one
 square_made : (s : Bool) (x : Operand) → IsOperator (square_op s x)
-square_made true x = record { made = refl; lift = refl; constant = refl }
-square_made false x = record { made = refl; lift = refl; constant = refl }
+square_made true x = record { made = refl; lift = refl }
+square_made false x = record { made = refl; lift = refl }
 
 -- an image is one
 map_made : (s : Bool) (m : ℕ) (x : Operand) → IsOperator (map_op s m x)
-map_made true m x = record { made = refl; lift = refl; constant = refl }
-map_made false m x = record { made = refl; lift = refl; constant = refl }
+map_made true m x = record { made = refl; lift = refl }
+map_made false m x = record { made = refl; lift = refl }
 
 -- a count of values and one more
 pub count_push : (test : Op → Bool) (values : List Op) (op : Op) (b : Bool) → test op ≡ b → count_by test (values ++ op ∷ []) ≡ count_by test values + cond b 1 0
@@ -72,7 +68,6 @@ grown_more : (before after : List Op) (us : List WorkUnit) (op : Op) → IsOpera
 grown_more before after us op is grown = record {
   made = omega (arith, count_push is_made after op true is.made, grown.made, operations-append us (Operation ∷ []));
   lifts = omega (arith, count_push is_lift after op false is.lift, grown.lifts);
-  constants = omega (arith, count_push is_constant after op false is.constant, grown.constants, operations-append us (Operation ∷ []));
 }
 
 -- some values, then more, and an operator on both
@@ -83,12 +78,11 @@ grown_joined a b c us vs op is first second =
     record {
       made = omega (arith, count_push is_made c op true is.made, first.made, second.made, one, all);
       lifts = omega (arith, count_push is_lift c op false is.lift, first.lifts, second.lifts);
-      constants = omega (arith, count_push is_constant c op false is.constant, first.constants, second.constants, one, all);
     }
 
 -- no value, and no operation
 pub grown_none : (values : List Op) (us : List WorkUnit) → operations us ≡ 0 → Grown values values us
-grown_none values us none = record { made = omega (arith, none); lifts = refl; constants = omega arith }
+grown_none values us none = record { made = omega (arith, none); lifts = refl }
 
 module _ (decls : List Decl) (turns : List Turn) (env : Environment Operand) where
   -- what an expression appends
@@ -125,7 +119,6 @@ module _ (decls : List Decl) (turns : List Turn) (env : Environment Operand) whe
       rw (given-Lit decls turns env value at values, units-Lit decls turns value at) (record {
         made = count_push is_made values (Const value) false refl;
         lifts = omega (arith, count_push is_lift values (Const value) false refl);
-        constants = omega (arith, count_push is_constant values (Const value) true refl);
       })
 
   -- what an expression appends

@@ -1,9 +1,9 @@
 -- Values that come behind others, and what is there among them.
-use Rattle.std.proofs.Common.{rules, ℕ, ◌≡◌, ◌<◌, ◌↔◌, ◌⊎◌, Bool, true, false, not, List, [], ◌∷◌, ◌++◌, Some, length, slice_get, get_or, IsSomeAnd, IsTrue, inl, inr, refl, sym, ap, subst, ◌∙◌, true≢false}
+use Rattle.std.proofs.Common.{rules, ◌≡◌, ◌↔◌, Bool, true, false, not, length, slice_get, IsTrue, inl, inr, refl, sym, ap, subst, ◌∙◌, true≢false}
 use Rattle.mk_ssa.specs.declared.Operand.{Operand}
 use Rattle.mk_ssa.specs.declared.Operand.TheVariants.{Secret, Public, Block}
 use Rattle.mk_ssa.specs.declared.Op.{Op}
-use Rattle.mk_ssa.specs.declared.Op.TheVariants.{Const, Lift}
+use Rattle.mk_ssa.specs.declared.Op.TheVariants.{Const}
 use Rattle.mk_ssa.specs.Kinds.{is_public}
 use Rattle.mk_ssa.specs.Values.{Draft, IsSharedThere, IsPublicThere, Fits, pushed}
 use Rattle.mk_ssa.proofs.Lists.{IsSomeAnd-value, slice_get-at}
@@ -12,7 +12,7 @@ use Rattle.mk_unroll.specs.declared.operators.Joint.{Joint}
 use Rattle.mk_unroll.specs.declared.operators.Joint.TheVariants as joint_
 use Rattle.mk_unroll.specs.Joints.{joint_op}
 use Rattle.mk_unroll.specs.Kept.{IsThere, Keeps, Gives}
-use Rattle.mk_unroll.specs.Unrolled.{Given, is_shared_operand, square_op, map_op, appended, applied, joined, lifted_if}
+use Rattle.mk_unroll.specs.Unrolled.{Given, is_shared_operand, appended}
 
 -- nothing came behind
 pub keeps_all : (d : Draft) → Keeps d d
@@ -120,22 +120,6 @@ module _ (d : Draft) (x : Operand) (there : IsThere d x) where
 
 -- operators whose operands are of the kinds that were tested
 module _ (d : Draft) (x : Operand) (p : Bool) (xs : (p ≡ true → IsSharedThere d x) × (p ≡ false → IsPublicThere d x)) where
-  -- a square fits
-  pub fits_square : Fits d (square_op p x)
-  fits_square = by p xs
-    where
-      by : (b : Bool) → (b ≡ true → IsSharedThere d x) × (b ≡ false → IsPublicThere d x) → Fits d (square_op b x)
-      by true is = is.0 refl
-      by false is = is.1 refl
-
-  -- an image fits
-  pub fits_map : (m : ℕ) → m < length d.maps → Fits d (map_op p m x)
-  fits_map m within = by p xs
-    where
-      by : (b : Bool) → (b ≡ true → IsSharedThere d x) × (b ≡ false → IsPublicThere d x) → Fits d (map_op b m x)
-      by true is = (within, is.0 refl)
-      by false is = (within, is.1 refl)
-
   -- a sum and a product fit
   pub fits_joint : (j : Joint) (y : Operand) (q : Bool) → (q ≡ true → IsSharedThere d y) × (q ≡ false → IsPublicThere d y) → Fits d (joint_op j p q x y)
   fits_joint j y q ys = by j p q xs ys

@@ -1,19 +1,17 @@
 -- The operands of the outputs are shared and stand for the elements of the outputs.
-use Rattle.std.proofs.Common.{◌≡◌, ℕ, zero, suc, ◌<◌, true, cond, List, [], ◌∷◌, ◌++◌, Some, map, length, get_or, length-append, refl, ap, ◌∙◌, arith}
+use Rattle.std.proofs.Common.{◌≡◌, ℕ, true, cond, List, [], ◌∷◌, ◌++◌, Some, map, length, length-append, refl, ap, ◌∙◌, arith}
 use Rattle.std.proofs.lemmas.List.Sums.{sum_by-cons}
-use Rattle.mk_field.specs.Field.{size}
 use Rattle.mk_ast.specs.declared.tree.Decl.{Decl}
 use Rattle.mk_ast.specs.declared.tree.What.{What}
 use Rattle.mk_ast.specs.declared.tree.What.TheVariants as what
 use Rattle.mk_ast.specs.declared.tree.Class.TheVariants as class_
 use Rattle.mk_ssa.specs.declared.Operand.{Operand}
 use Rattle.mk_ssa.specs.declared.Op.{Op}
-use Rattle.mk_ssa.specs.Values.{IsSharedThere}
 use Rattle.mk_ssa.specs.Denoted.{operand_value}
 use Rattle.mk_types.specs.Scope.{is_variable}
 use Rattle.mk_types.specs.Elements.{is_output_class, elements_in, elements_among}
 use Rattle.mk_types.specs.Environment.{Environment, output_elements}
-use Rattle.mk_unroll.proofs.Stands.{Setting, draft_of, elements_of_values}
+use Rattle.mk_unroll.proofs.Stands.{Setting, elements_of_values}
 use Rattle.mk_unroll.proofs.Environments.{EachStands, VariableStands, EnvironmentStands}
 
 module _ (t : Setting) (values : List Op) where
@@ -66,24 +64,9 @@ module _ (t : Setting) (values : List Op) where
       )
   outputs_count ds env elements all = absurd all
 
-  -- each operand is shared and there
-  pub each_there : (xs : List Operand) (elements : List ℕ) → EachStands t true values xs elements → (k : ℕ) (d : Operand) → k < length xs →
-      IsSharedThere (draft_of t values) (get_or xs k d)
-  each_there [] elements all k d below = absurd (omega arith)
-  each_there (x ∷ xs) [] all k d below = absurd all
-  each_there (x ∷ xs) (a ∷ es) all zero d below = all.0.there
-  each_there (x ∷ xs) (a ∷ es) all (suc k) d below = each_there xs es all.1 k d (omega arith)
-
   -- each has its element as its value
   pub each_value : (xs : List Operand) (elements : List ℕ) → EachStands t true values xs elements → map (operand_value t.publics t.secrets (elements_of_values t values)) xs ≡ elements
   each_value [] [] all = refl
   each_value [] (a ∷ es) all = absurd all
   each_value (x ∷ xs) [] all = absurd all
   each_value (x ∷ xs) (a ∷ es) all = ap (λ (v : ℕ). v ∷ map (operand_value t.publics t.secrets (elements_of_values t values)) xs) all.0.value ∙ ap (λ (vs : List ℕ). a ∷ vs) (each_value xs es all.1)
-
-  -- each element is one of the field
-  pub each_element : (xs : List Operand) (elements : List ℕ) → EachStands t true values xs elements → (k d : ℕ) → k < length elements → get_or elements k d < size t.field
-  each_element xs [] all k d below = absurd (omega arith)
-  each_element [] (a ∷ es) all k d below = absurd all
-  each_element (x ∷ xs) (a ∷ es) all zero d below = all.0.element
-  each_element (x ∷ xs) (a ∷ es) all (suc k) d below = each_element xs es all.1 k d (omega arith)

@@ -1,12 +1,10 @@
--- The values that a program is unrolled to fit together and denote its outputs, where its execution comes
--- to its end.
-use Rattle.std.proofs.Common.{◌≡◌, ℕ, ◌<◌, true, List, [], All, Some, None, flat_map, length, replicate, pow_pos, refl, sym, ap, subst, ◌∙◌, arith}
-use Rattle.std.proofs.lemmas.List.{length-map, length-replicate, get_or-replicate}
+-- The values that a program is unrolled to denote its outputs, where its execution comes to its end.
+use Rattle.std.proofs.Common.{◌≡◌, ℕ, ◌<◌, true, List, [], All, Some, None, flat_map, length, replicate, pow_pos, sym, ap, subst, arith}
+use Rattle.std.proofs.lemmas.List.{length-replicate, get_or-replicate}
 use Rattle.mk_field.specs.Field.{bits, size}
 use Rattle.mk_ast.specs.declared.tree.Program.{Program}
 use Rattle.mk_ast.specs.Grammar.{most_brackets}
 use Rattle.mk_ast.specs.Regular.{IsRegular}
-use Rattle.mk_ssa.specs.Values.{IsValues}
 use Rattle.mk_ssa.specs.Denoted.{denoted}
 use Rattle.mk_types.specs.Elements.{secrets_of, publics_of, outputs_of}
 use Rattle.mk_types.specs.Units.{units}
@@ -22,7 +20,7 @@ use Rattle.mk_unroll.proofs.Environments.{EachStands}
 use Rattle.mk_unroll.proofs.ExpressionsStand.{Declares}
 use Rattle.mk_unroll.proofs.StatementsStand.{Holds, stmts_hold}
 use Rattle.mk_unroll.proofs.Beginnings.{HasInputs, made_first, beginnings_stand}
-use Rattle.mk_unroll.proofs.OutputsStand.{outputs_stand, outputs_count, each_there, each_value, each_element}
+use Rattle.mk_unroll.proofs.OutputsStand.{outputs_stand, outputs_count, each_value}
 
 -- a program with its inputs
 abbrev setting : Program → List ℕ → List ℕ → Setting
@@ -55,35 +53,13 @@ zeros p = record {
     all_zeros n k d below =
         subst (λ (a : ℕ). a < size p.field) (sym (get_or-replicate n k 0 d (omega (arith, below, length-replicate {A = ℕ} n 0)))) (pow_pos (bits p.field))
 
--- the values that a program is unrolled to fit together
-pub unrolled_fits : (p : Program) → IsRegular p → IsWellTyped p → stop (units p) ≡ None → IsValues (unrolled p)
-unrolled_fits p regular accepted ended =
-    let publics = replicate (publics_of p) 0 in
-    let secrets = replicate (secrets_of p) 0 in
-    let t = setting p publics secrets in
-    let holds = unrolling_holds p publics secrets regular accepted ended (zeros p) in
-    let values = (last_unrolling p).values in
-    record {
-      made = holds.made;
-      outs = each_there t values (unrolled_outs p) (outputs p publics secrets)
-          (outputs_stand t values p.decls (last_unrolling p).env (last_values p publics secrets) holds.env);
-    }
-
--- they have as many outputs as are declared
+-- the values that a program is unrolled to have as many outputs as are declared
 pub unrolled_outs_count : (p : Program) → IsRegular p → IsWellTyped p → stop (units p) ≡ None → length (unrolled p).outs ≡ outputs_of p
 unrolled_outs_count p regular accepted ended =
     let publics = replicate (publics_of p) 0 in
     let secrets = replicate (secrets_of p) 0 in
     let holds = unrolling_holds p publics secrets regular accepted ended (zeros p) in
     outputs_count (setting p publics secrets) (last_unrolling p).values p.decls (last_unrolling p).env (last_values p publics secrets) holds.env
-
--- as many secrets
-pub unrolled_secrets_count : (p : Program) → (unrolled p).secrets ≡ secrets_of p
-unrolled_secrets_count p = refl
-
--- and as many public inputs
-pub unrolled_publics_count : (p : Program) → (unrolled p).publics ≡ publics_of p
-unrolled_publics_count p = refl
 
 module _ (p : Program) (publics secrets : List ℕ) (regular : IsRegular p) (accepted : IsWellTyped p) (ended : stop (units p) ≡ None)
     (publics_len : length publics ≡ publics_of p) (secrets_len : length secrets ≡ secrets_of p)
@@ -102,11 +78,3 @@ module _ (p : Program) (publics secrets : List ℕ) (regular : IsRegular p) (acc
   -- which are its result
   pub unrolled_result : result p publics secrets ≡ Some (denoted (unrolled p) publics secrets)
   unrolled_result = rw ended (ap (λ (xs : List ℕ). Some xs) (sym unrolled_denotes))
-
-  -- the outputs of a program are elements
-  pub output_is_element : All (λ a. a < size p.field) (outputs p publics secrets)
-  output_is_element = each_element (setting p publics secrets) (last_unrolling p).values (unrolled_outs p) (outputs p publics secrets) outs_stand
-
-  -- there are as many as are declared
-  pub outputs_length : length (outputs p publics secrets) ≡ outputs_of p
-  outputs_length = ap length (sym unrolled_denotes) ∙ length-map (unrolled_outs p) _ ∙ unrolled_outs_count p regular accepted ended

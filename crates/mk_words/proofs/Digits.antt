@@ -1,5 +1,5 @@
 -- Words of elements are made of hexadecimal digits.
-use Rattle.std.proofs.Common.{◌≡◌, ◌≢◌, ℕ, suc, ◌%◌, ◌≤◌, List, [], ◌∷◌, length, Bool, true, false, true≢false, ◌==◌, refl, sym, ap, ◌∙◌, inl, inr, arith, Result, Ok, Err}
+use Rattle.std.proofs.Common.{◌≡◌, ◌≢◌, ℕ, suc, ◌%◌, List, [], ◌∷◌, length, Bool, true, false, true≢false, ◌==◌, refl, sym, ap, ◌∙◌, inl, inr, arith, Result, Ok, Err}
 use Rattle.std.proofs.lemmas.Bool.Decides.{Decides-eqb}
 use Rattle.std.specs.Prelude.{codes, MatchResult, is_some, nat_le, ◌&&◌, ◌||◌, if◌then◌else◌, Some, None}
 use Rattle.std.specs.List.{AllPass}
@@ -8,7 +8,7 @@ use Rattle.std.proofs.lemmas.List.Elements.{All-weaker}
 use Rattle.hex.specs.Hex.{decode_sized, is_hex_digit}
 use Rattle.hex.specs.declared.error.FromHexError.{FromHexError}
 use Rattle.hex.proofs.HexLemmas.{decode_of-ok, decode_of-digits, decode_sized-ok, decode_sized-twice}
-use Rattle.mk_words.specs.Words.{SaysElements, SaysSeed}
+use Rattle.mk_words.specs.Words.{SaysSeed}
 use Rattle.mk_words.specs.Forms.{AreElements}
 
 -- of three tests the order is the same
@@ -41,11 +41,6 @@ says-digits word some even digits = let d = decode_of-digits word even (to-hex w
 pub says-only : (word : List ℕ) → word ≢ codes "-" → AreElements word → (word ≢ []) × (length word % 2 ≡ 0) × AllPass is_ascii_hexdigit word
 says-only word other (xs, inl says) = absurd (other says.0)
 says-only word other (xs, inr says) = let d = decode_of-ok word xs says.1 in (says.0, d.0, from-hex word d.1)
-
--- the elements that a word says are fewer than its digits
-pub says-fewer : (word xs : List ℕ) → word ≢ codes "-" → SaysElements word xs → length xs ≤ length word
-says-fewer word xs other (inl says) = absurd (other says.0)
-says-fewer word xs other (inr says) = let d = decode_of-ok word xs says.1 in omega (arith, d.2)
 
 -- a word of no byte is empty
 pub no-byte : (word : List ℕ) → (length word == 0) ≡ true → word ≡ []
