@@ -3,6 +3,7 @@ use Rattle.std.specs.Prelude.{ℕ, ◌^◌, ◌<◌, List, ◌++◌, codes, deci
 use Rattle.mk_ssa.specs.declared.Operand.{Operand}
 use Rattle.mk_ssa.specs.declared.Op.{Op}
 use Rattle.mk_ssa.specs.declared.Op.TheVariants.{Const, PubAdd, PubMul, PubSq, PubMap, Lift, Add, AddPub, Scale, Sq, Map, Mul, Refresh}
+use Rattle.mk_ssa.specs.Operators.{operator_word}
 use Rattle.mk_lines.specs.Words.{line, hex_byte, operand_word, OperandFits}
 
 -- the line of a block of this kind with these words behind it
@@ -17,21 +18,25 @@ pair_words left right = operand_word left ++ codes " " ++ operand_word right
 abbrev pub mapped_words : ℕ → Operand → List ℕ
 mapped_words map arg = decimal map ++ codes " " ++ operand_word arg
 
+-- what stands behind an operator's word: its element, or the number of its map and its operands
+abbrev pub argument_words : Op → List ℕ
+argument_words (Const value) = hex_byte value
+argument_words (PubAdd left right) = pair_words left right
+argument_words (PubMul left right) = pair_words left right
+argument_words (PubSq arg) = operand_word arg
+argument_words (PubMap map arg) = mapped_words map arg
+argument_words (Lift arg) = operand_word arg
+argument_words (Add left right) = pair_words left right
+argument_words (AddPub left right) = pair_words left right
+argument_words (Scale left right) = pair_words left right
+argument_words (Sq arg) = operand_word arg
+argument_words (Map map arg) = mapped_words map arg
+argument_words (Mul left right) = pair_words left right
+argument_words (Refresh arg) = operand_word arg
+
 -- the line of a block
 abbrev pub op_line : Op → List ℕ
-op_line (Const value) = block_line (codes "const") (hex_byte value)
-op_line (PubAdd left right) = block_line (codes "padd") (pair_words left right)
-op_line (PubMul left right) = block_line (codes "pmul") (pair_words left right)
-op_line (PubSq arg) = block_line (codes "psq") (operand_word arg)
-op_line (PubMap map arg) = block_line (codes "pmap") (mapped_words map arg)
-op_line (Lift arg) = block_line (codes "lift") (operand_word arg)
-op_line (Add left right) = block_line (codes "add") (pair_words left right)
-op_line (AddPub left right) = block_line (codes "addp") (pair_words left right)
-op_line (Scale left right) = block_line (codes "scale") (pair_words left right)
-op_line (Sq arg) = block_line (codes "sq") (operand_word arg)
-op_line (Map map arg) = block_line (codes "map") (mapped_words map arg)
-op_line (Mul left right) = block_line (codes "mul") (pair_words left right)
-op_line (Refresh arg) = block_line (codes "refresh") (operand_word arg)
+op_line op = block_line (operator_word op) (argument_words op)
 
 -- the number of each operand has 32 bits, that of a map too, and a constant is a byte
 abbrev pub OpFits : Op → Type 0

@@ -36,20 +36,19 @@ pub fn push_op(text: &mut String, op: Op) -> Result<(), AllocError>
     ensures text { OnOk result (string_bytes text.new ≡ string_bytes text.old ++ op_line op) }
     ensures fits { OnOk result (OpFits op) }
 {
+    let kind = op.word();
     match op {
-        Op::Const { value } => push_constant(text, "const", value),
-        Op::PubAdd { left, right } => push_pair(text, "padd", left, right),
-        Op::PubMul { left, right } => push_pair(text, "pmul", left, right),
-        Op::PubSq { arg } => push_single(text, "psq", arg),
-        Op::PubMap { map, arg } => push_mapped(text, "pmap", map, arg),
-        Op::Lift { arg } => push_single(text, "lift", arg),
-        Op::Add { left, right } => push_pair(text, "add", left, right),
-        Op::AddPub { left, right } => push_pair(text, "addp", left, right),
-        Op::Scale { left, right } => push_pair(text, "scale", left, right),
-        Op::Sq { arg } => push_single(text, "sq", arg),
-        Op::Map { map, arg } => push_mapped(text, "map", map, arg),
-        Op::Mul { left, right } => push_pair(text, "mul", left, right),
-        Op::Refresh { arg } => push_single(text, "refresh", arg),
+        Op::Const { value } => push_constant(text, kind, value),
+        Op::PubSq { arg } | Op::Lift { arg } | Op::Sq { arg } | Op::Refresh { arg } => {
+            push_single(text, kind, arg)
+        }
+        Op::PubMap { map, arg } | Op::Map { map, arg } => push_mapped(text, kind, map, arg),
+        Op::PubAdd { left, right }
+        | Op::PubMul { left, right }
+        | Op::Add { left, right }
+        | Op::AddPub { left, right }
+        | Op::Scale { left, right }
+        | Op::Mul { left, right } => push_pair(text, kind, left, right),
     }
 }
 
