@@ -93,16 +93,13 @@ fn bits_of<const N: usize>(number: u32) -> [u8; N] {
     bits
 }
 
-/// The entries of a run over the lowest bits of the state and of the tape: bit k is entry k.
-fn entries<const SHARES: usize, const RANDOMS: usize>(
-    alloc: Global,
-    code: &Code,
-    state: u32,
-    tape: u32,
-) -> Option<u32> {
-    let shares = bits_of::<SHARES>(state);
-    let tape = bits_of::<RANDOMS>(tape);
-    let trace = run_code(alloc, code, &[], &shares, &tape).ok()?;
+/// The entries of a run over the lowest bits of the state and of the tape, as many as the code takes: bit k is
+/// entry k.
+fn entries(alloc: Global, code: &Code, state: u32, tape: u32) -> Option<u32> {
+    let (state, tape) = (bits_of::<6>(state), bits_of::<3>(tape));
+    let shares = state.get(..2 * (usize::from(code.order()) + 1))?;
+    let tape = tape.get(..code.randoms() as usize)?;
+    let trace = run_code(alloc, code, &[], shares, tape).ok()?;
     let mut bits = 0;
     for entry in trace.as_slice().iter().rev() {
         bits = bits << 1 | *entry as u32;
@@ -110,17 +107,14 @@ fn entries<const SHARES: usize, const RANDOMS: usize>(
     Some(bits)
 }
 
-/// The runs of a code over all its tapes, state by state.
-fn all_runs<const SHARES: usize, const RANDOMS: usize, const TAPES: usize>(
-    alloc: Global,
-    code: &Code,
-    states: u32,
-) -> Option<Vec<[u32; TAPES]>> {
+/// The runs of a code over all tapes of three bits, state by state of six bits. A code that takes fewer has each run
+/// as often as any other.
+fn all_runs(alloc: Global, code: &Code) -> Option<Vec<[u32; 8]>> {
     let mut runs = Vec::new(alloc);
-    for state in 0..states {
-        let mut tapes = [0; TAPES];
-        for tape in 0..TAPES {
-            tapes[tape] = entries::<SHARES, RANDOMS>(alloc, code, state, tape as u32)?;
+    for state in 0..64 {
+        let mut tapes = [0; 8];
+        for tape in 0..8 {
+            tapes[tape] = entries(alloc, code, state, tape as u32)?;
         }
         runs.push(tapes).ok()?;
     }
@@ -128,7 +122,7 @@ fn all_runs<const SHARES: usize, const RANDOMS: usize, const TAPES: usize>(
 }
 
 /// How many of the tapes show each two bits.
-fn counts(runs: &[u32], first: Seen, second: Seen) -> [u32; 4] {
+fn counts(runs: &[u32; 8], first: Seen, second: Seen) -> [u32; 4] {
     let mut counts = [0u32; 4];
     for entries in runs {
         let one = entries.wrapping_shr(first.place) % 2;
@@ -140,12 +134,7 @@ fn counts(runs: &[u32], first: Seen, second: Seen) -> [u32; 4] {
 }
 
 /// Whether each state shows two values as often as the state with only the shares that are asked for.
-fn depends<const TAPES: usize>(
-    runs: &[[u32; TAPES]],
-    first: Seen,
-    second: Seen,
-    asked: usize,
-) -> bool {
+fn depends(runs: &[[u32; 8]], first: Seen, second: Seen, asked: usize) -> bool {
     for (state, tapes) in runs.iter().enumerate() {
         let Some(alike) = runs.get(state & asked) else {
             return false;
@@ -163,7 +152,7 @@ fn each_place_of_a_product_of_two_shares(rt: HostRuntime) -> Result<(), Fail> {
     let product = small_bundle_of(rt.alloc(), text)
         .ok()
         .ok_or("it is compiled")?;
-    let runs = all_runs::<4, 1, 2>(rt.alloc(), &product.code, 16).ok_or("it runs")?;
+    let runs = all_runs(rt.alloc(), &product.code).ok_or("it runs")?;
     let places = [
         row(4, 1),
         pair(5, 1, 2),
@@ -224,7 +213,7 @@ fn places_of_three_shares() -> [Seen; 27] {
 fn each_two_places_of_a_product_of_three_shares(rt: HostRuntime) -> Result<(), Fail> {
     let text = "field gf2; secret a; secret b; output y; y = a * b;";
     let product = bundle_of(rt.alloc(), text).ok().ok_or("it is compiled")?;
-    let runs = all_runs::<6, 3, 8>(rt.alloc(), &product.code, 64).ok_or("it runs")?;
+    let runs = all_runs(rt.alloc(), &product.code).ok_or("it runs")?;
     let places = places_of_three_shares();
     for first in &places {
         for second in &places {
