@@ -1,5 +1,5 @@
 -- What was counted of a text, said of the bytes that the input gave.
-use Rattle.std.proofs.Common.{◌≡◌, ℕ, List, Option, Some, None, Result, Ok, Err, IfOk, IfSome, subst, sym, ap, ◌∙◌, ◌⊎◌, inl, inr}
+use Rattle.std.proofs.Common.{◌≡◌, ℕ, List, Option, Some, None, IfSome, subst, sym, ap, ◌∙◌, ◌⊎◌, inl, inr}
 use Rattle.std.specs.Prelude.{option_map}
 use Rattle.mk_base.specs.Streams.{ReadsAll}
 use Rattle.mk_code.specs.Listing.{Listing}
@@ -29,7 +29,7 @@ count_not_made ps first second probes bytes code cert e pair is (inr why) = by e
     by count.Memory h = tt
 
 -- the bundle that was read is the one that was given
-counts-given : (given after : Option (List ℕ)) (bytes written ps first second probes : List ℕ)
+pub counts-given : (given after : Option (List ℕ)) (bytes written ps first second probes : List ℕ)
     → IfSome given (λ rest. ReadsAll rest bytes after) → Counts ps first second probes (Some bytes) written → Counts ps first second probes given written
 counts-given None after bytes written ps first second probes read c = record {
   code = c.code;
@@ -51,9 +51,3 @@ counts-given (Some rest) after bytes written ps first second probes read c = rec
   table = c.table;
   bytes = c.bytes;
 }
-
--- the same of an answer
-pub counted-given : {E : Type 0} (given after : Option (List ℕ)) (bytes ps first second probes : List ℕ) (r : Result (List ℕ) E)
-    → IfSome given (λ rest. ReadsAll rest bytes after) → IfOk r (Counts ps first second probes (Some bytes)) → IfOk r (Counts ps first second probes given)
-counted-given given after bytes ps first second probes (Ok written) read makes = counts-given given after bytes written ps first second probes read makes
-counted-given given after bytes ps first second probes (Err e) read makes = tt

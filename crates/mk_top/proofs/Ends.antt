@@ -1,5 +1,5 @@
 -- How a run ends, by its words, its input's bytes and the counts of faults.
-use Rattle.std.proofs.Common.{◌≡◌, ℕ, ◌<◌, ◌≤◌, List, [], ◌∷◌, Option, Some, None, IfSome, Result, Ok, Err, IfErr, OnOk, length, inl, inr, refl, ap, sym, subst}
+use Rattle.std.proofs.Common.{◌≡◌, ℕ, ◌<◌, ◌≤◌, List, [], ◌∷◌, Option, Some, None, IfSome, Result, Ok, Err, IfOk, IfErr, OnOk, length, inl, inr, refl, ap, sym, subst, arith}
 use Rattle.std.specs.Prelude.{option_map, codes}
 use Rattle.mk_base.specs.Outside.{Rose}
 use Rattle.mk_bundle.specs.Pairs.{TextsDiffer}
@@ -17,10 +17,11 @@ use Rattle.mk_top.specs.Faults.{status_of, fault_of_eval, fault_of_run, fault_of
 use Rattle.mk_top.specs.Decided.{Decides, TextDecides, limit_of}
 use Rattle.mk_top.specs.Headline.{Makes, TakesWhole, TakesSome}
 use Rattle.mk_top.specs.Because.{ReadWhole, Reads, input_of, Because, IsOrMemory, answer_status, IsAnswerOf}
-use Rattle.mk_top.specs.Running.{Finished, StoppedAt, Stopped, ReadsOrLeaves}
+use Rattle.mk_top.specs.Running.{Finished, StoppedAt, Stopped, ReadsOrLeaves, NotMade, NoText, Made, IsMade, IsUnmade}
 use Rattle.mk_words.proofs.Asking.{asks-one}
 use Rattle.mk_top.proofs.Deciding.{decides-one}
 use Rattle.mk_top.proofs.Tried.{tries-decides}
+use Rattle.mk_top.proofs.Given.{made-given, no_text-given}
 
 -- what a command makes of its input decides that there is no fault
 makes-decides : (words : List (List ℕ)) (command : Command) (bytes written : List ℕ) → Asks words command → Makes command (Some bytes) written → length bytes ≤ limit_of command
@@ -116,54 +117,74 @@ stopped-cut command given after reads then_reads before taken writes then_writes
 stopped-cut command given after reads then_reads before taken writes then_writes (fault_.Tapes elements) s is = absurd cc
 stopped-cut command given after reads then_reads before taken writes then_writes (fault_.TooLong at) s is = absurd cc
 
--- a command whose text was put is finished where it was put whole
-pub put-finished : (command : Command) (given after before taken : Option (List ℕ)) (written : List ℕ) (r : Result (Unit {0}) Fault)
-    → ReadWhole (limit_of command) given after → Makes command given written → OnOk r (TakesWhole before written taken) → OnOk r (Finished command given after before taken)
-put-finished command given after before taken written (Ok done) read makes whole = record { read = read; written = written; makes = makes; whole = whole }
-put-finished command given after before taken written (Err fault) read makes whole = tt
+-- the text of what the words ask for was put whole
+pub put-finished : (words : List (List ℕ)) (given after before taken : Option (List ℕ)) (written : List ℕ) (r : Result (Unit {0}) Fault)
+    → IsMade words given after written → OnOk r (TakesWhole before written taken)
+    → OnOk r ((command : Command) × Asks words command × Finished command (input_of command given) (input_of command after) before taken)
+put-finished words given after before taken written (Ok done) made whole =
+    (made.0, made.1, record { read = made.2.read; written = written; makes = made.2.makes; whole = whole })
+put-finished words given after before taken written (Err fault) made whole = tt
 
--- and stopped where the output failed
-pub put-stopped : (command : Command) (given after : Option (List ℕ)) (reads then_reads : ℕ) (before taken : Option (List ℕ)) (writes then_writes : ℕ) (written : List ℕ) (r : Result (Unit {0}) Fault)
-    → ReadWhole (limit_of command) given after → Makes command given written → IfErr r (λ fault. fault ≡ fault_.WriteFault)
+-- or the output failed
+pub put-stopped : (words : List (List ℕ)) (given after : Option (List ℕ)) (reads then_reads : ℕ) (before taken : Option (List ℕ)) (writes then_writes : ℕ) (written : List ℕ) (r : Result (Unit {0}) Fault)
+    → IsMade words given after written → IfErr r (λ fault. fault ≡ fault_.WriteFault)
     → IfErr r (λ fault. TakesSome before written taken) → IfErr r (λ fault. Rose writes then_writes)
-    → IfErr r (StoppedAt command given after reads then_reads before taken writes then_writes)
-put-stopped command given after reads then_reads before taken writes then_writes written (Ok done) read makes is some rose = tt
-put-stopped command given after reads then_reads before taken writes then_writes written (Err fault) read makes is some rose =
-    subst (StoppedAt command given after reads then_reads before taken writes then_writes) (sym is)
-    (record { read = read; written = written; makes = makes; some = some; rose = rose })
-
--- a command that was asked for and stopped is a run that stopped
-pub stopped-asked : (words : List (List ℕ)) (command : Command) (given after : Option (List ℕ)) (reads then_reads : ℕ) (before taken : Option (List ℕ)) (writes then_writes : ℕ) (r : Result (Unit {0}) Fault)
-    → Asks words command → IfErr r (StoppedAt command (input_of command given) (input_of command after) reads then_reads before taken writes then_writes)
     → IfErr r (Stopped words given after reads then_reads before taken writes then_writes)
-stopped-asked words command given after reads then_reads before taken writes then_writes (Ok done) asks stopped = tt
-stopped-asked words command given after reads then_reads before taken writes then_writes (Err fault_.Words) asks stopped = absurd stopped
-stopped-asked words command given after reads then_reads before taken writes then_writes (Err fault) asks stopped = (command, asks, stopped)
+put-stopped words given after reads then_reads before taken writes then_writes written (Ok done) made is some rose = tt
+put-stopped words given after reads then_reads before taken writes then_writes written (Err fault) made is some rose =
+    subst (Stopped words given after reads then_reads before taken writes then_writes) (sym is)
+    (made.0, made.1, record { read = made.2.read; written = written; makes = made.2.makes; some = some; rose = rose })
 
--- one that was asked for and carried out is a run that was
-pub finished-asked : (words : List (List ℕ)) (command : Command) (given after before taken : Option (List ℕ)) (r : Result (Unit {0}) Fault)
-    → Asks words command → OnOk r (Finished command (input_of command given) (input_of command after) before taken)
-    → OnOk r ((other : Command) × Asks words other × Finished other (input_of other given) (input_of other after) before taken)
-finished-asked words command given after before taken (Ok done) asks finished = (command, asks, finished)
-finished-asked words command given after before taken (Err fault) asks finished = tt
+-- where there is no text, nothing was put
+pub unmade-stopped : (words : List (List ℕ)) (given after : Option (List ℕ)) (reads then_reads : ℕ) (before taken : Option (List ℕ)) (writes then_writes : ℕ) (fault : Fault)
+    → IsUnmade words given after reads then_reads fault → Stopped words given after reads then_reads before taken writes then_writes fault
+unmade-stopped words given after reads then_reads before taken writes then_writes fault_.Words none = none
+unmade-stopped words given after reads then_reads before taken writes then_writes fault_.WriteFault none = absurd none.2
+unmade-stopped words given after reads then_reads before taken writes then_writes fault none = none
 
--- an evaluation on the elements that the words say and that was carried out is one that the words ask for
-pub finished-evaluated : (words : List (List ℕ)) (first second : List ℕ) (given after before taken : Option (List ℕ)) (r : Result (Unit {0}) Fault)
-    → words ≡ codes "eval" ∷ first ∷ second ∷ [] → OnOk r (OfElements first second (λ command. Finished command given after before taken))
-    → OnOk r ((other : Command) × Asks words other × Finished other (input_of other given) (input_of other after) before taken)
-finished-evaluated words first second given after before taken (Ok done) asks finished =
-    (Eval finished.0 finished.1, (first, second, asks, finished.2, finished.3), finished.4)
-finished-evaluated words first second given after before taken (Err fault) asks finished = tt
+-- a text that a command made is that of the words that ask for it
+pub made-asked : (words : List (List ℕ)) (command : Command) (given after : Option (List ℕ)) (r : Result (List ℕ) Fault)
+    → Asks words command → IfOk r (Made command (input_of command given) (input_of command after)) → IfOk r (IsMade words given after)
+made-asked words command given after (Ok text) asks made = (command, asks, made)
+made-asked words command given after (Err fault) asks made = tt
 
--- and one that stopped is a run that stopped
-pub stopped-evaluated : (words : List (List ℕ)) (first second : List ℕ) (given after : Option (List ℕ)) (reads then_reads : ℕ) (before taken : Option (List ℕ)) (writes then_writes : ℕ) (r : Result (Unit {0}) Fault)
-    → words ≡ codes "eval" ∷ first ∷ second ∷ []
-    → IfErr r (λ fault. OfElements first second (λ command. StoppedAt command given after reads then_reads before taken writes then_writes fault))
-    → IfErr r (Stopped words given after reads then_reads before taken writes then_writes)
-stopped-evaluated words first second given after reads then_reads before taken writes then_writes (Ok done) asks stopped = tt
-stopped-evaluated words first second given after reads then_reads before taken writes then_writes (Err fault) asks stopped =
-    stopped-asked words (Eval stopped.0 stopped.1) given after reads then_reads before taken writes then_writes (Err fault)
-    (first, second, asks, stopped.2, stopped.3) stopped.4
+-- and where it has none, they have none
+pub unmade-asked : (words : List (List ℕ)) (command : Command) (given after : Option (List ℕ)) (reads then_reads : ℕ) (r : Result (List ℕ) Fault)
+    → Asks words command → IfErr r (NoText command (input_of command given) (input_of command after) reads then_reads)
+    → IfErr r (IsUnmade words given after reads then_reads)
+unmade-asked words command given after reads then_reads (Ok text) asks none = tt
+unmade-asked words command given after reads then_reads (Err fault_.Words) asks none = absurd none
+unmade-asked words command given after reads then_reads (Err fault) asks none = (command, asks, none)
+
+-- the same of a command that reads nothing
+pub made-unread : (words : List (List ℕ)) (command : Command) (given after : Option (List ℕ)) (r : Result (List ℕ) Fault)
+    → input_of command given ≡ Some [] → input_of command after ≡ Some [] → Asks words command → IfOk r (Makes command (Some [])) → IfOk r (IsMade words given after)
+made-unread words command given after r none still asks makes =
+    made-asked words command given after r asks
+    (subst (λ (o : Option (List ℕ)). IfOk r (Made command o (input_of command after))) (sym none)
+    (subst (λ (o : Option (List ℕ)). IfOk r (Made command (Some []) o)) (sym still)
+    (made-given command (Some []) (Some []) [] r (omega arith) (record { whole = refl; end = refl }) makes)))
+
+pub unmade-unread : (words : List (List ℕ)) (command : Command) (given after : Option (List ℕ)) (reads then_reads : ℕ) (r : Result (List ℕ) Fault)
+    → input_of command given ≡ Some [] → input_of command after ≡ Some [] → Asks words command → IfErr r (NotMade command []) → IfErr r (IsUnmade words given after reads then_reads)
+unmade-unread words command given after reads then_reads r none still asks why =
+    unmade-asked words command given after reads then_reads r asks
+    (subst (λ (o : Option (List ℕ)). IfErr r (NoText command o (input_of command after) reads then_reads)) (sym none)
+    (subst (λ (o : Option (List ℕ)). IfErr r (NoText command (Some []) o reads then_reads)) (sym still)
+    (no_text-given command (Some []) (Some []) reads then_reads [] r (omega arith) (record { whole = refl; end = refl }) why)))
+
+-- the same of an evaluation on the elements that the words say
+pub made-evaluated : (words : List (List ℕ)) (first second : List ℕ) (given after : Option (List ℕ)) (r : Result (List ℕ) Fault)
+    → words ≡ codes "eval" ∷ first ∷ second ∷ [] → IfOk r (λ text. OfElements first second (λ command. Made command given after text)) → IfOk r (IsMade words given after)
+made-evaluated words first second given after (Ok text) asks made = (Eval made.0 made.1, (first, second, asks, made.2, made.3), made.4)
+made-evaluated words first second given after (Err fault) asks made = tt
+
+pub unmade-evaluated : (words : List (List ℕ)) (first second : List ℕ) (given after : Option (List ℕ)) (reads then_reads : ℕ) (r : Result (List ℕ) Fault)
+    → words ≡ codes "eval" ∷ first ∷ second ∷ [] → IfErr r (λ fault. OfElements first second (λ command. NoText command given after reads then_reads fault))
+    → IfErr r (IsUnmade words given after reads then_reads)
+unmade-evaluated words first second given after reads then_reads (Ok text) asks none = tt
+unmade-evaluated words first second given after reads then_reads (Err fault) asks none =
+    unmade-asked words (Eval none.0 none.1) given after reads then_reads (Err fault) (first, second, asks, none.2, none.3) none.4
 
 -- the tape that the words give is the one that they say
 tape-said : (kind word : List ℕ) (tape : TapeForm) (given : GivenTape) → SaysTapeSo kind word tape → IsGivenBy tape given → SaysTape kind word given
@@ -177,25 +198,22 @@ asks-run : (words : List (List ℕ)) (kind word : List ℕ) (first second : List
 asks-run words kind word first second tape P asks says of =
     (Run of.0 of.1 of.2, (first, second, kind, word, asks, of.3, of.4, tape-said kind word tape of.2 says of.5), of.6)
 
--- a run on what the words say that was carried out is one that the words ask for
-pub finished-run : (words : List (List ℕ)) (kind word : List ℕ) (first second : List ℕ) (tape : TapeForm) (given after before taken : Option (List ℕ)) (r : Result (Unit {0}) Fault)
+-- the same of a run on what the words say
+pub made-run : (words : List (List ℕ)) (kind word : List ℕ) (first second : List ℕ) (tape : TapeForm) (given after : Option (List ℕ)) (r : Result (List ℕ) Fault)
     → words ≡ codes "run" ∷ first ∷ second ∷ kind ∷ word ∷ [] → SaysTapeSo kind word tape
-    → OnOk r (OfRun first second tape (λ command. Finished command given after before taken))
-    → OnOk r ((command : Command) × Asks words command × Finished command (input_of command given) (input_of command after) before taken)
-finished-run words kind word first second tape given after before taken (Ok done) asks says finished =
-    asks-run words kind word first second tape (λ command. Finished command (input_of command given) (input_of command after) before taken) asks says finished
-finished-run words kind word first second tape given after before taken (Err fault) asks says finished = tt
+    → IfOk r (λ text. OfRun first second tape (λ command. Made command given after text)) → IfOk r (IsMade words given after)
+made-run words kind word first second tape given after (Ok text) asks says made =
+    asks-run words kind word first second tape (λ command. Made command (input_of command given) (input_of command after) text) asks says made
+made-run words kind word first second tape given after (Err fault) asks says made = tt
 
--- and one that stopped is a run that stopped
-pub stopped-run : (words : List (List ℕ)) (kind word : List ℕ) (first second : List ℕ) (tape : TapeForm) (given after : Option (List ℕ)) (reads then_reads : ℕ) (before taken : Option (List ℕ)) (writes then_writes : ℕ) (r : Result (Unit {0}) Fault)
+pub unmade-run : (words : List (List ℕ)) (kind word : List ℕ) (first second : List ℕ) (tape : TapeForm) (given after : Option (List ℕ)) (reads then_reads : ℕ) (r : Result (List ℕ) Fault)
     → words ≡ codes "run" ∷ first ∷ second ∷ kind ∷ word ∷ [] → SaysTapeSo kind word tape
-    → IfErr r (λ fault. OfRun first second tape (λ command. StoppedAt command given after reads then_reads before taken writes then_writes fault))
-    → IfErr r (Stopped words given after reads then_reads before taken writes then_writes)
-stopped-run words kind word first second tape given after reads then_reads before taken writes then_writes (Ok done) asks says stopped = tt
-stopped-run words kind word first second tape given after reads then_reads before taken writes then_writes (Err fault) asks says stopped =
+    → IfErr r (λ fault. OfRun first second tape (λ command. NoText command given after reads then_reads fault)) → IfErr r (IsUnmade words given after reads then_reads)
+unmade-run words kind word first second tape given after reads then_reads (Ok text) asks says none = tt
+unmade-run words kind word first second tape given after reads then_reads (Err fault) asks says none =
     let run =
-    asks-run words kind word first second tape (λ command. StoppedAt command (input_of command given) (input_of command after) reads then_reads before taken writes then_writes fault) asks says stopped in
-    stopped-asked words run.0 given after reads then_reads before taken writes then_writes (Err fault) run.1 run.2
+    asks-run words kind word first second tape (λ command. NoText command (input_of command given) (input_of command after) reads then_reads fault) asks says none in
+    unmade-asked words run.0 given after reads then_reads (Err fault) run.1 run.2
 
 -- what holds of every run holds of the one on what the words say
 pub any-run : (first second : List ℕ) (tape : TapeForm) (P : Command → Type 0) → AreElements first → AreElements second → IsTapeForm tape
@@ -204,38 +222,35 @@ any-run first second (tape_.Seed seed) P one two said all = (one.0, two.0, Seed 
 any-run first second (tape_.Elements word) P one two said all =
     (one.0, two.0, Tape said.0.0, one.1, two.1, (said.0.0, said.0.1, refl), all one.0 two.0 (Tape said.0.0))
 
--- so a run that wants memory before it reads is one that stopped
-pub run-wanting : (first second : List ℕ) (tape : TapeForm) (given after : Option (List ℕ)) (reads then_reads : ℕ) (before taken : Option (List ℕ)) (writes then_writes : ℕ) (r : Result (Unit {0}) Fault) (why : Fault)
+-- so a run that wants memory before it reads has no text
+pub run-wanting : (first second : List ℕ) (tape : TapeForm) (given after : Option (List ℕ)) (reads then_reads : ℕ) (r : Result (List ℕ) Fault) (why : Fault)
     → AreElements first → AreElements second → IsTapeForm tape → r ≡ Err why → why ≡ fault_.Memory
-    → IfErr r (λ fault. OfRun first second tape (λ command. StoppedAt command given after reads then_reads before taken writes then_writes fault))
-run-wanting first second tape given after reads then_reads before taken writes then_writes r why one two said is wanted =
-    let P = λ (fault : Fault). OfRun first second tape (λ command. StoppedAt command given after reads then_reads before taken writes then_writes fault) in
-    subst (λ (s : Result (Unit {0}) Fault). IfErr s P) (sym is)
-    (subst P (sym wanted) (any-run first second tape (λ command. StoppedAt command given after reads then_reads before taken writes then_writes fault_.Memory) one two said (λ publics secrets given. tt)))
+    → IfErr r (λ fault. OfRun first second tape (λ command. NoText command given after reads then_reads fault))
+run-wanting first second tape given after reads then_reads r why one two said is wanted =
+    let P = λ (fault : Fault). OfRun first second tape (λ command. NoText command given after reads then_reads fault) in
+    subst (λ (s : Result (List ℕ) Fault). IfErr s P) (sym is)
+    (subst P (sym wanted) (any-run first second tape (λ command. NoText command given after reads then_reads fault_.Memory) one two said (λ publics secrets given. tt)))
 
 -- words of a count ask for the count on what they say
 asks-count : (words : List (List ℕ)) (word one two seen : List ℕ) (P : Command → Type 0)
     → words ≡ codes "count" ∷ word ∷ one ∷ two ∷ seen ∷ [] → OfCount word one two seen P → (command : Command) × Asks words command × P command
 asks-count words word one two seen P asks of = (Count of.0 of.1 of.2 of.3, (word, one, two, seen, asks, of.4, of.5, of.6, of.7), of.8)
 
--- a count on what the words say that was carried out is one that the words ask for
-pub finished-count : (words : List (List ℕ)) (word one two seen : List ℕ) (given after before taken : Option (List ℕ)) (r : Result (Unit {0}) Fault)
-    → words ≡ codes "count" ∷ word ∷ one ∷ two ∷ seen ∷ [] → OnOk r (OfCount word one two seen (λ command. Finished command given after before taken))
-    → OnOk r ((command : Command) × Asks words command × Finished command (input_of command given) (input_of command after) before taken)
-finished-count words word one two seen given after before taken (Ok done) asks finished =
-    asks-count words word one two seen (λ command. Finished command (input_of command given) (input_of command after) before taken) asks finished
-finished-count words word one two seen given after before taken (Err fault) asks finished = tt
+-- the same of a count on what the words say
+pub made-counted : (words : List (List ℕ)) (word one two seen : List ℕ) (given after : Option (List ℕ)) (r : Result (List ℕ) Fault)
+    → words ≡ codes "count" ∷ word ∷ one ∷ two ∷ seen ∷ [] → IfOk r (λ text. OfCount word one two seen (λ command. Made command given after text)) → IfOk r (IsMade words given after)
+made-counted words word one two seen given after (Ok text) asks made =
+    asks-count words word one two seen (λ command. Made command (input_of command given) (input_of command after) text) asks made
+made-counted words word one two seen given after (Err fault) asks made = tt
 
--- and one that stopped is a run that stopped
-pub stopped-count : (words : List (List ℕ)) (word one two seen : List ℕ) (given after : Option (List ℕ)) (reads then_reads : ℕ) (before taken : Option (List ℕ)) (writes then_writes : ℕ) (r : Result (Unit {0}) Fault)
-    → words ≡ codes "count" ∷ word ∷ one ∷ two ∷ seen ∷ []
-    → IfErr r (λ fault. OfCount word one two seen (λ command. StoppedAt command given after reads then_reads before taken writes then_writes fault))
-    → IfErr r (Stopped words given after reads then_reads before taken writes then_writes)
-stopped-count words word one two seen given after reads then_reads before taken writes then_writes (Ok done) asks stopped = tt
-stopped-count words word one two seen given after reads then_reads before taken writes then_writes (Err fault) asks stopped =
+pub unmade-counted : (words : List (List ℕ)) (word one two seen : List ℕ) (given after : Option (List ℕ)) (reads then_reads : ℕ) (r : Result (List ℕ) Fault)
+    → words ≡ codes "count" ∷ word ∷ one ∷ two ∷ seen ∷ [] → IfErr r (λ fault. OfCount word one two seen (λ command. NoText command given after reads then_reads fault))
+    → IfErr r (IsUnmade words given after reads then_reads)
+unmade-counted words word one two seen given after reads then_reads (Ok text) asks none = tt
+unmade-counted words word one two seen given after reads then_reads (Err fault) asks none =
     let counted =
-    asks-count words word one two seen (λ command. StoppedAt command (input_of command given) (input_of command after) reads then_reads before taken writes then_writes fault) asks stopped in
-    stopped-asked words counted.0 given after reads then_reads before taken writes then_writes (Err fault) counted.1 counted.2
+    asks-count words word one two seen (λ command. NoText command (input_of command given) (input_of command after) reads then_reads fault) asks none in
+    unmade-asked words counted.0 given after reads then_reads (Err fault) counted.1 counted.2
 
 -- a count on elements and probes is one on the words that say them
 module _ (word one two seen publics first second probes qs us xs ks : List ℕ) (P : Command → Type 0)
@@ -254,22 +269,22 @@ module _ (word one two seen publics first second probes qs us xs ks : List ℕ) 
     holds,
   )
 
--- so is one that was carried out
-pub finished-said : (word one two seen publics first second probes qs us xs ks : List ℕ) (P : Command → Type 0) (r : Result (Unit {0}) Fault)
+-- so is its text
+pub made-said : (word one two seen publics first second probes qs us xs ks : List ℕ) (P : Command → List ℕ → Type 0) (r : Result (List ℕ) Fault)
     → SaysElements word publics × SaysElements one first × SaysElements two second × SaysProbes seen probes
     → (qs ≡ publics) × (us ≡ first) × (xs ≡ second) × (ks ≡ probes)
-    → OnOk r (P (Count qs us xs ks)) → OnOk r (OfCount word one two seen P)
-finished-said word one two seen publics first second probes qs us xs ks P (Ok done) says same holds =
-    count-said word one two seen publics first second probes qs us xs ks P says same holds
-finished-said word one two seen publics first second probes qs us xs ks P (Err fault) says same holds = tt
+    → IfOk r (P (Count qs us xs ks)) → IfOk r (λ text. OfCount word one two seen (λ command. P command text))
+made-said word one two seen publics first second probes qs us xs ks P (Ok text) says same holds =
+    count-said word one two seen publics first second probes qs us xs ks (λ command. P command text) says same holds
+made-said word one two seen publics first second probes qs us xs ks P (Err fault) says same holds = tt
 
--- and one that stopped
-pub stopped-said : (word one two seen publics first second probes qs us xs ks : List ℕ) (P : Command → Fault → Type 0) (r : Result (Unit {0}) Fault)
+-- and that there is none
+pub unmade-said : (word one two seen publics first second probes qs us xs ks : List ℕ) (P : Command → Fault → Type 0) (r : Result (List ℕ) Fault)
     → SaysElements word publics × SaysElements one first × SaysElements two second × SaysProbes seen probes
     → (qs ≡ publics) × (us ≡ first) × (xs ≡ second) × (ks ≡ probes)
     → IfErr r (P (Count qs us xs ks)) → IfErr r (λ fault. OfCount word one two seen (λ command. P command fault))
-stopped-said word one two seen publics first second probes qs us xs ks P (Ok done) says same holds = tt
-stopped-said word one two seen publics first second probes qs us xs ks P (Err fault) says same holds =
+unmade-said word one two seen publics first second probes qs us xs ks P (Ok text) says same holds = tt
+unmade-said word one two seen publics first second probes qs us xs ks P (Err fault) says same holds =
     count-said word one two seen publics first second probes qs us xs ks (λ command. P command fault) says same holds
 
 -- the tape that the words give has a word of elements, where it has a word

@@ -1,5 +1,5 @@
 -- What was made of a text, said of the bytes that the input gave.
-use Rattle.std.proofs.Common.{◌≡◌, ℕ, ◌≤◌, List, Option, Some, None, Result, Ok, Err, IfOk, IfErr, IfSome, OnOk, length, subst, sym, ap, ◌∙◌, ◌⊎◌, inl, inr}
+use Rattle.std.proofs.Common.{◌≡◌, ℕ, ◌≤◌, List, Option, Some, None, Result, Ok, Err, IfOk, IfErr, IfSome, length, subst, sym, ap, ◌∙◌, ◌⊎◌, inl, inr}
 use Rattle.std.specs.Prelude.{option_map}
 use Rattle.mk_base.specs.Streams.{ReadsAll}
 use Rattle.mk_top.specs.declared.fault.Fault.{Fault}
@@ -17,7 +17,7 @@ use Rattle.mk_place.specs.Different.{AllDifferButRefreshes}
 use Rattle.mk_compile.specs.Compiled.{IsWithin, IsCertified}
 use Rattle.mk_compile.specs.Correct.{Correct}
 use Rattle.mk_top.specs.Decided.{limit_of, TextDecides}
-use Rattle.mk_top.specs.Headline.{CompilesSo, Checks, Evaluates}
+use Rattle.mk_top.specs.Headline.{CompilesSo, Checks, Evaluates, Makes}
 use Rattle.mk_top.specs.Because.{ReadWhole, IsAnswerOf}
 use Rattle.mk_top.specs.Sources.{IsSourceOf}
 use Rattle.mk_eval.specs.declared.refusal.EvalRefusal.{EvalRefusal}
@@ -34,7 +34,9 @@ use Rattle.mk_run.specs.Refusals.{count_refusal, whole_refusal}
 use Rattle.mk_code.specs.Private.{masked_trace}
 use Rattle.mk_top.specs.Runs.{Runs, tape_of, run_text}
 use Rattle.mk_top.specs.Faults.{fault_of_source, status_of, fault_of_eval, fault_of_run, fault_of_count}
-use Rattle.mk_top.specs.Running.{NotMade, NoText}
+use Rattle.mk_top.specs.Running.{NotMade, Made, NoText}
+use Rattle.mk_top.proofs.Counted.{counts-given}
+use Rattle.mk_top.proofs.Reported.{reports-given}
 use Rattle.mk_top.proofs.Causes.{IsLimitOrIndex, cause-kind}
 use Rattle.mk_top.proofs.Texts.{short-text}
 
@@ -76,12 +78,6 @@ compiles-given (Some rest) after bytes written order read (c, made) = (
   made,
 )
 
--- the same of an answer
-pub compiled-given : {E : Type 0} (given after : Option (List ℕ)) (bytes : List ℕ) (order : ℕ) (r : Result (List ℕ) E)
-    → IfSome given (λ rest. ReadsAll rest bytes after) → IfOk r (CompilesSo order (Some bytes)) → IfOk r (CompilesSo order given)
-compiled-given given after bytes order (Ok written) read compiles = compiles-given given after bytes written order read compiles
-compiled-given given after bytes order (Err e) read compiles = tt
-
 -- the same of a source that was evaluated
 evaluates-given : (given after : Option (List ℕ)) (bytes written ps ss : List ℕ)
     → IfSome given (λ rest. ReadsAll rest bytes after) → Evaluates ps ss (Some bytes) written → Evaluates ps ss given written
@@ -102,12 +98,6 @@ evaluates-given (Some rest) after bytes written ps ss read c = record {
   bytes = c.bytes;
 }
 
--- the same of an answer
-pub evaluated-given : {E : Type 0} (given after : Option (List ℕ)) (bytes ps ss : List ℕ) (r : Result (List ℕ) E)
-    → IfSome given (λ rest. ReadsAll rest bytes after) → IfOk r (Evaluates ps ss (Some bytes)) → IfOk r (Evaluates ps ss given)
-evaluated-given given after bytes ps ss (Ok written) read makes = evaluates-given given after bytes written ps ss read makes
-evaluated-given given after bytes ps ss (Err e) read makes = tt
-
 -- the bundle that was read is the one that was given
 checks-given : (given after : Option (List ℕ)) (bytes : List ℕ) → IfSome given (λ rest. ReadsAll rest bytes after) → Checks (Some bytes) → Checks given
 checks-given None after bytes read c = record {
@@ -126,12 +116,6 @@ checks-given (Some rest) after bytes read c = record {
   accepted = c.accepted;
   private = c.private;
 }
-
--- the same of an answer
-pub checked-given : {E : Type 0} (given after : Option (List ℕ)) (bytes : List ℕ) (r : Result (Unit {0}) E)
-    → IfSome given (λ rest. ReadsAll rest bytes after) → OnOk r (Checks (Some bytes)) → OnOk r (Checks given)
-checked-given given after bytes (Ok done) read checks = checks-given given after bytes read checks
-checked-given given after bytes (Err e) read checks = tt
 
 -- the same of a bundle that was run
 runs-given : (given after : Option (List ℕ)) (bytes written ps ss : List ℕ) (tape : GivenTape)
@@ -153,17 +137,32 @@ runs-given (Some rest) after bytes written ps ss tape read c = record {
   bytes = c.bytes;
 }
 
--- the same of an answer
-pub ran-given : {E : Type 0} (given after : Option (List ℕ)) (bytes ps ss : List ℕ) (tape : GivenTape) (r : Result (List ℕ) E)
-    → IfSome given (λ rest. ReadsAll rest bytes after) → IfOk r (Runs ps ss tape (Some bytes)) → IfOk r (Runs ps ss tape given)
-ran-given given after bytes ps ss tape (Ok written) read makes = runs-given given after bytes written ps ss tape read makes
-ran-given given after bytes ps ss tape (Err e) read makes = tt
-
 -- what was read within the limit was read to the end
 pub read-given : (given after : Option (List ℕ)) (bytes : List ℕ) (limit : ℕ) → length bytes ≤ limit
     → IfSome given (λ rest. ReadsAll rest bytes after) → ReadWhole limit given after
 read-given None after bytes limit within read = tt
 read-given (Some rest) after bytes limit within read = (subst (λ (xs : List ℕ). length xs ≤ limit) read.whole within, read.end)
+
+-- what a command makes of the text that was read it makes of the input
+makes-given : (command : Command) (given after : Option (List ℕ)) (bytes written : List ℕ)
+    → IfSome given (λ rest. ReadsAll rest bytes after) → Makes command (Some bytes) written → Makes command given written
+makes-given (Compile order) given after bytes written read makes = compiles-given given after bytes written order read makes
+makes-given Check given after bytes written read makes = (checks-given given after bytes read makes.0, makes.1)
+makes-given (Eval ps ss) given after bytes written read makes = evaluates-given given after bytes written ps ss read makes
+makes-given (Run ps ss tape) given after bytes written read makes = runs-given given after bytes written ps ss tape read makes
+makes-given (Count ps one two qs) given after bytes written read makes = counts-given given after bytes written ps one two qs read makes
+makes-given Report given after bytes written read makes = reports-given given after bytes written read makes
+makes-given (Gen turns) given after bytes written read makes = makes
+makes-given (Trial turns order) given after bytes written read makes = makes
+
+-- so the text that is made of what was read is the command's
+pub made-given : (command : Command) (given after : Option (List ℕ)) (bytes : List ℕ) (r : Result (List ℕ) Fault)
+    → length bytes ≤ limit_of command → IfSome given (λ rest. ReadsAll rest bytes after) → IfOk r (Makes command (Some bytes)) → IfOk r (Made command given after)
+made-given command given after bytes (Ok written) within read makes = record {
+  read = read-given given after bytes (limit_of command) within read;
+  makes = makes-given command given after bytes written read makes;
+}
+made-given command given after bytes (Err fault) within read makes = tt
 
 -- an answer that the bytes decide is one that the given bytes decide
 decides-given : (given after : Option (List ℕ)) (bytes : List ℕ) (P : List ℕ → Type 0) → IfSome given (λ rest. ReadsAll rest bytes after) → P bytes → IfSome given P

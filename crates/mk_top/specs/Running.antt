@@ -43,6 +43,23 @@ NoText command given after reads then_reads (TooLong at) = Reads command × (at 
 NoText command given after reads then_reads fault =
     IfSome given (λ bytes. TextDecides command bytes (Some fault)) × ReadWhole (limit_of command) given after × IsAnswerOf command (status_of fault)
 
+-- the text that a command made of its input, which was read to its end
+pub record Made (command : Command) (given after : Option (List ℕ)) (written : List ℕ) : Type 0 where
+  pub read : ReadWhole (limit_of command) given after
+  pub makes : Makes command given written
+
+-- the same of the command that the words ask for
+abbrev pub IsMade : List (List ℕ) → Option (List ℕ) → Option (List ℕ) → List ℕ → Type 0
+IsMade words given after written =
+    (command : Command) × Asks words command × Made command (input_of command given) (input_of command after) written
+
+-- why there is no text: the words are no form, or the command that they ask for has none for its input
+abbrev pub IsUnmade : List (List ℕ) → Option (List ℕ) → Option (List ℕ) → ℕ → ℕ → Fault → Type 0
+IsUnmade words given after reads then_reads Words = IsNoForm words
+IsUnmade words given after reads then_reads fault =
+    (command : Command) × Asks words command
+    × NoText command (input_of command given) (input_of command after) reads then_reads fault
+
 -- a command that was carried out: its input was read to its end, and its text written whole
 pub record Finished (command : Command) (given after before taken : Option (List ℕ)) : Type 0 where
   pub read : ReadWhole (limit_of command) given after

@@ -1,13 +1,14 @@
-ghost use Rattle.std.specs.Prelude.{◌≡◌, ◌≤◌, Some, OnOk, IfErr, length};
+//! Bundles: read, and then checked.
+
+ghost use Rattle.std.specs.Prelude.{◌≡◌, ◌≤◌, Some, OnOk, IfOk, IfErr, length, codes};
 ghost use Rattle.mk_words.specs.Words.{Check};
-ghost use Rattle.mk_top.specs.Decided.{limit_of};
-ghost use Rattle.mk_top.specs.Headline.{Checks};
-ghost use Rattle.mk_top.specs.Because.{ReadWhole};
-ghost use Rattle.mk_top.specs.Running.{NotMade, NoText};
+ghost use Rattle.mk_top.specs.Headline.{Checks, Makes};
+ghost use Rattle.mk_top.specs.Running.{NotMade, Made, NoText};
 
 use crate::fault::Fault;
+use crate::outputs::bytes_of;
 use crate::reading::{BUNDLE_LIMIT, whole_text};
-use mk_base::Source;
+use mk_base::{Bytes, Memory, Source};
 use mk_bundle::read_bundle;
 use mk_check::check;
 use std::alloc::Global;
@@ -23,13 +24,32 @@ fn verdict_of(alloc: Global, text: &[u8]) -> Result<(), Fault>
     Ok(())
 }
 
-/// Reads a bundle to its end, and checks it.
-pub(crate) fn check_bundle<S: Source>(alloc: Global, src: &mut S) -> Result<(), Fault>
-    ensures checked { OnOk result (Checks (S.left src.old)) }
-    ensures read { OnOk result (ReadWhole (limit_of Check) (S.left src.old) (S.left src.new)) }
-    ensures fault { IfErr result (NoText Check (S.left src.old) (S.left src.new) (S.faults src.old) (S.faults src.new)) }
-    ensures never_falls { S.faults src.old ≤ S.faults src.new }
+/// The line that tells that a bundle is accepted.
+fn accepted_line(alloc: Global) -> Result<Bytes, Memory>
+    ensures { IfOk result (λ line. line ≡ codes "accepted\n") }
+{
+    let mut line = String::new(alloc);
+    line.push_str("accepted\n")?;
+    bytes_of(line)
+}
+
+/// The same of the bundle that a text spells.
+fn line_of_verdict(alloc: Global, text: &[u8]) -> Result<Bytes, Fault>
+    requires { length text.now ≤ 268435456 }
+    ensures checked { IfOk result (Makes Check (Some text.now)) }
+    ensures fault { IfErr result (NotMade Check text.now) }
+{
+    verdict_of(alloc, text)?;
+    Ok(accepted_line(alloc)?)
+}
+
+/// Reads a bundle to its end, checks it, and answers the line that tells that it is accepted.
+pub(crate) fn checked_text<S: Source>(alloc: Global, src: &mut S) -> Result<Bytes, Fault>
+    ensures made { IfOk result (Made Check (S.left src.old) (S.left src.new)) }
+    ensures unmade { IfErr result (NoText Check
+        (S.left src.old) (S.left src.new) (S.faults src.old) (S.faults src.new)) }
+    ensures reads { S.faults src.old ≤ S.faults src.new }
 {
     let text = whole_text(alloc, src, BUNDLE_LIMIT)?;
-    verdict_of(alloc, text.as_slice())
+    line_of_verdict(alloc, text.as_slice())
 }

@@ -4,9 +4,7 @@ ghost use Rattle.std.specs.Prelude.{◌≡◌, ◌++◌, ◌≤◌, ◌<◌, ◌
 ghost use Rattle.std.specs.List.{list_all};
 ghost use Rattle.mk_words.specs.Words.{Count};
 ghost use Rattle.mk_top.specs.Counts.{Counts, row_line, table_text};
-ghost use Rattle.mk_top.specs.Decided.{limit_of};
-ghost use Rattle.mk_top.specs.Because.{ReadWhole};
-ghost use Rattle.mk_top.specs.Running.{NotMade, NoText};
+ghost use Rattle.mk_top.specs.Running.{NotMade, Made, NoText};
 
 use crate::fault::Fault;
 use crate::outputs::bytes_of;
@@ -94,10 +92,10 @@ pub(crate) fn count_bundle<S: Source>(
     requires first { length first.now < 2 ^ 32 }
     requires second { length second.now < 2 ^ 32 }
     requires probes { length probes.now < 2 ^ 32 }
-    ensures counts { IfOk result (Counts publics.now first.now second.now probes.now (S.left src.old)) }
-    ensures read { IfOk result (λ _. ReadWhole (limit_of (Count publics.now first.now second.now probes.now)) (S.left src.old) (S.left src.new)) }
-    ensures fault { IfErr result (NoText (Count publics.now first.now second.now probes.now) (S.left src.old) (S.left src.new) (S.faults src.old) (S.faults src.new)) }
-    ensures never_falls { S.faults src.old ≤ S.faults src.new }
+    ensures made { IfOk result (Made (Count publics.now first.now second.now probes.now) (S.left src.old) (S.left src.new)) }
+    ensures unmade { IfErr result (NoText (Count publics.now first.now second.now probes.now)
+        (S.left src.old) (S.left src.new) (S.faults src.old) (S.faults src.new)) }
+    ensures reads { S.faults src.old ≤ S.faults src.new }
 {
     let text = whole_text(alloc, src, BUNDLE_LIMIT)?;
     count_of(alloc, text.as_slice(), publics, first, second, probes)

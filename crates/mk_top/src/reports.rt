@@ -2,10 +2,8 @@
 
 ghost use Rattle.std.specs.Prelude.{◌≤◌, Some, IfOk, IfErr, length};
 ghost use Rattle.mk_words.specs.Words.{Report};
-ghost use Rattle.mk_top.specs.Decided.{limit_of};
 ghost use Rattle.mk_top.specs.Headline.{Reports};
-ghost use Rattle.mk_top.specs.Because.{ReadWhole};
-ghost use Rattle.mk_top.specs.Running.{NotMade, NoText};
+ghost use Rattle.mk_top.specs.Running.{NotMade, Made, NoText};
 
 use crate::fault::Fault;
 use crate::reading::{BUNDLE_LIMIT, whole_text};
@@ -28,10 +26,10 @@ fn report_of(alloc: Global, text: &[u8]) -> Result<Bytes, Fault>
 
 /// Reads a bundle to its end, checks it, and answers its report.
 pub(crate) fn report_bundle<S: Source>(alloc: Global, src: &mut S) -> Result<Bytes, Fault>
-    ensures reports { IfOk result (Reports (S.left src.old)) }
-    ensures read { IfOk result (λ _. ReadWhole (limit_of Report) (S.left src.old) (S.left src.new)) }
-    ensures fault { IfErr result (NoText Report (S.left src.old) (S.left src.new) (S.faults src.old) (S.faults src.new)) }
-    ensures never_falls { S.faults src.old ≤ S.faults src.new }
+    ensures made { IfOk result (Made Report (S.left src.old) (S.left src.new)) }
+    ensures unmade { IfErr result (NoText Report
+        (S.left src.old) (S.left src.new) (S.faults src.old) (S.faults src.new)) }
+    ensures reads { S.faults src.old ≤ S.faults src.new }
 {
     let text = whole_text(alloc, src, BUNDLE_LIMIT)?;
     report_of(alloc, text.as_slice())

@@ -7,9 +7,7 @@ ghost use Rattle.mk_run.specs.declared.refusal.RunRefusal.TheVariants as refusal
 ghost use Rattle.mk_words.specs.Words.{Run};
 ghost use Rattle.mk_top.specs.Forms.{given_of, IsShort};
 ghost use Rattle.mk_top.specs.Runs.{Runs, tape_of, run_text};
-ghost use Rattle.mk_top.specs.Decided.{limit_of};
-ghost use Rattle.mk_top.specs.Because.{ReadWhole};
-ghost use Rattle.mk_top.specs.Running.{NotMade, NoText};
+ghost use Rattle.mk_top.specs.Running.{NotMade, Made, NoText};
 
 use crate::fault::Fault;
 use crate::outputs::outputs_text;
@@ -102,10 +100,10 @@ pub(crate) fn run_bundle<S: Source>(
     requires publics { length publics.now < 2 ^ 32 }
     requires secrets { length secrets.now < 2 ^ 32 }
     requires tape { IsShort tape }
-    ensures runs { IfOk result (Runs publics.now secrets.now (given_of tape.entry) (S.left src.old)) }
-    ensures read { IfOk result (λ _. ReadWhole (limit_of (Run publics.now secrets.now (given_of tape.entry))) (S.left src.old) (S.left src.new)) }
-    ensures fault { IfErr result (NoText (Run publics.now secrets.now (given_of tape.entry)) (S.left src.old) (S.left src.new) (S.faults src.old) (S.faults src.new)) }
-    ensures never_falls { S.faults src.old ≤ S.faults src.new }
+    ensures made { IfOk result (Made (Run publics.now secrets.now (given_of tape.entry)) (S.left src.old) (S.left src.new)) }
+    ensures unmade { IfErr result (NoText (Run publics.now secrets.now (given_of tape.entry))
+        (S.left src.old) (S.left src.new) (S.faults src.old) (S.faults src.new)) }
+    ensures reads { S.faults src.old ≤ S.faults src.new }
 {
     let text = whole_text(alloc, src, BUNDLE_LIMIT)?;
     run_of(alloc, text.as_slice(), publics, secrets, tape)

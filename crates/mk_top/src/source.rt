@@ -4,11 +4,9 @@ ghost use Rattle.std.specs.Prelude.{◌≤◌, ◌<◌, ◌^◌, Some, IfOk, IfE
 ghost use Rattle.mk_base.specs.declared.TheConstants.{TOP_ORDER};
 ghost use Rattle.mk_types.specs.Elements.{maps_of};
 ghost use Rattle.mk_words.specs.Words.{Compile, Eval};
-ghost use Rattle.mk_top.specs.Decided.{limit_of};
 ghost use Rattle.mk_top.specs.Headline.{CompilesSo, Evaluates};
-ghost use Rattle.mk_top.specs.Because.{ReadWhole};
 ghost use Rattle.mk_top.specs.Sources.{IsSourceOf};
-ghost use Rattle.mk_top.specs.Running.{NotMade, NotTyped, NoText};
+ghost use Rattle.mk_top.specs.Running.{NotMade, NotTyped, Made, NoText};
 
 use crate::fault::Fault;
 use crate::outputs::elements_line;
@@ -72,10 +70,10 @@ pub(crate) fn compiled_text<S: Source>(
     order: u8,
 ) -> Result<Bytes, Fault>
     requires { (1 ≤ order) × (order ≤ TOP_ORDER) }
-    ensures compiled { IfOk result (CompilesSo order (S.left src.old)) }
-    ensures read { IfOk result (λ _. ReadWhole (limit_of (Compile order)) (S.left src.old) (S.left src.new)) }
-    ensures fault { IfErr result (NoText (Compile order) (S.left src.old) (S.left src.new) (S.faults src.old) (S.faults src.new)) }
-    ensures never_falls { S.faults src.old ≤ S.faults src.new }
+    ensures made { IfOk result (Made (Compile order) (S.left src.old) (S.left src.new)) }
+    ensures unmade { IfErr result (NoText (Compile order)
+        (S.left src.old) (S.left src.new) (S.faults src.old) (S.faults src.new)) }
+    ensures reads { S.faults src.old ≤ S.faults src.new }
 {
     let source = whole_text(alloc, src, SOURCE_LIMIT)?;
     text_of_source(alloc, source.as_slice(), order)
@@ -90,10 +88,10 @@ pub(crate) fn evaluated_text<S: Source>(
 ) -> Result<Bytes, Fault>
     requires publics { length publics.now < 2 ^ 32 }
     requires secrets { length secrets.now < 2 ^ 32 }
-    ensures evaluated { IfOk result (Evaluates publics.now secrets.now (S.left src.old)) }
-    ensures read { IfOk result (λ _. ReadWhole (limit_of (Eval publics.now secrets.now)) (S.left src.old) (S.left src.new)) }
-    ensures fault { IfErr result (NoText (Eval publics.now secrets.now) (S.left src.old) (S.left src.new) (S.faults src.old) (S.faults src.new)) }
-    ensures never_falls { S.faults src.old ≤ S.faults src.new }
+    ensures made { IfOk result (Made (Eval publics.now secrets.now) (S.left src.old) (S.left src.new)) }
+    ensures unmade { IfErr result (NoText (Eval publics.now secrets.now)
+        (S.left src.old) (S.left src.new) (S.faults src.old) (S.faults src.new)) }
+    ensures reads { S.faults src.old ≤ S.faults src.new }
 {
     let source = whole_text(alloc, src, SOURCE_LIMIT)?;
     text_of_outputs(alloc, source.as_slice(), publics, secrets)

@@ -2,17 +2,19 @@
 use Rattle.std.proofs.Common.{ℕ, List, Some, IfOk, IfErr, subst}
 use Rattle.mk_words.specs.Words.{Run}
 use Rattle.mk_top.specs.Forms.{given_of}
-use Rattle.mk_top.specs.Runs.{Runs}
+use Rattle.mk_top.specs.Headline.{Makes}
 use Rattle.mk_top.specs.Running.{NotMade}
-use Rattle.mk_top.proofs.Given.{ran-given, no_text-given}
+use Rattle.mk_top.proofs.Given.{made-given, no_text-given}
 use Rattle.mk_top.proofs.runs.run_bundle.Goals as goal
 
-pub returns-clause-runs : goal.returns-clause-runs
-returns-clause-runs g c =
-    ran-given (g.S.Source.left c.args.src.now) _ c.in_ok-text.text c.args.publics.now c.args.secrets.now (given_of c.args.tape) c.run_of.result c.in_ok-text.ensures.read
-    (subst (λ (bytes : List ℕ). IfOk c.run_of.result (Runs c.args.publics.now c.args.secrets.now (given_of c.args.tape) (Some bytes))) c.as_slice.ensures.items c.run_of.ensures.runs)
+pub returns-clause-made : goal.returns-clause-made
+returns-clause-made g c =
+    let command = Run c.args.publics.now c.args.secrets.now (given_of c.args.tape) in
+    made-given command (g.S.Source.left c.args.src.now) _ c.in_ok-text.text c.run_of.result c.in_ok-text.ensures.within c.in_ok-text.ensures.read
+    (subst (λ (bytes : List ℕ). IfOk c.run_of.result (Makes command (Some bytes))) c.as_slice.ensures.items c.run_of.ensures.runs)
 
-pub returns-clause-fault : goal.returns-clause-fault
-returns-clause-fault g c =
-    no_text-given (Run c.args.publics.now c.args.secrets.now (given_of c.args.tape)) (g.S.Source.left c.args.src.now) _ _ _ c.in_ok-text.text c.run_of.result c.in_ok-text.ensures.within c.in_ok-text.ensures.read
-    (subst (λ (bytes : List ℕ). IfErr c.run_of.result (NotMade (Run c.args.publics.now c.args.secrets.now (given_of c.args.tape)) bytes)) c.as_slice.ensures.items c.run_of.ensures.fault)
+pub returns-clause-unmade : goal.returns-clause-unmade
+returns-clause-unmade g c =
+    let command = Run c.args.publics.now c.args.secrets.now (given_of c.args.tape) in
+    no_text-given command (g.S.Source.left c.args.src.now) _ _ _ c.in_ok-text.text c.run_of.result c.in_ok-text.ensures.within c.in_ok-text.ensures.read
+    (subst (λ (bytes : List ℕ). IfErr c.run_of.result (NotMade command bytes)) c.as_slice.ensures.items c.run_of.ensures.fault)
