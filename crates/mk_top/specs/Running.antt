@@ -32,8 +32,8 @@ NotMade command bytes Memory = Unit {0}
 NotMade command bytes (TooLong at) = ⊥
 NotMade command bytes fault = TextDecides command bytes (Some fault)
 
--- why there is no text for an input that was to be read, by its bytes before and after and its count of
--- faults before and after
+-- why a command has no text, by the bytes of its input before and after and its count of faults before and
+-- after
 abbrev pub NoText : Command → Option (List ℕ) → Option (List ℕ) → ℕ → ℕ → Fault → Type 0
 NoText command given after reads then_reads Words = ⊥
 NoText command given after reads then_reads ReadFault = Reads command × Rose reads then_reads × IfSome given (λ bytes. CameWithin (limit_of command) bytes after)

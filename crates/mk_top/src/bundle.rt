@@ -33,7 +33,7 @@ fn accepted_line(alloc: Global) -> Result<Bytes, Memory>
     bytes_of(line)
 }
 
-/// The same of the bundle that a text spells.
+/// Checks the bundle that a text spells, and answers the line that tells that it is accepted.
 fn line_of_verdict(alloc: Global, text: &[u8]) -> Result<Bytes, Fault>
     requires { length text.now ≤ 268435456 }
     ensures checked { IfOk result (Makes Check (Some text.now)) }

@@ -80,7 +80,7 @@ fn count_of(
 }
 
 /// Reads a bundle to its end, and answers the lines of the table of its code.
-pub(crate) fn count_bundle<S: Source>(
+pub(crate) fn counted_text<S: Source>(
     alloc: Global,
     src: &mut S,
     publics: &[u8],

@@ -25,7 +25,7 @@ fn report_of(alloc: Global, text: &[u8]) -> Result<Bytes, Fault>
 }
 
 /// Reads a bundle to its end, checks it, and answers its report.
-pub(crate) fn report_bundle<S: Source>(alloc: Global, src: &mut S) -> Result<Bytes, Fault>
+pub(crate) fn reported_text<S: Source>(alloc: Global, src: &mut S) -> Result<Bytes, Fault>
     ensures made { IfOk result (Made Report (S.left src.old) (S.left src.new)) }
     ensures unmade { IfErr result (NoText Report
         (S.left src.old) (S.left src.new) (S.faults src.old) (S.faults src.new)) }

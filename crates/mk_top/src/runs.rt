@@ -90,7 +90,7 @@ fn run_of(
 }
 
 /// Reads a bundle to its end, and answers the lines of the outputs of its run.
-pub(crate) fn run_bundle<S: Source>(
+pub(crate) fn ran_text<S: Source>(
     alloc: Global,
     src: &mut S,
     publics: &[u8],

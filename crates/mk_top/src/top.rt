@@ -18,12 +18,12 @@ ghost use Rattle.mk_top.specs.Counts.{Counts};
 ghost use Rattle.mk_top.specs.Running.{Finished, Stopped, ReadsOrLeaves, Made, NoText, IsMade, IsUnmade};
 
 use crate::bundle::checked_text;
-use crate::counts::count_bundle;
+use crate::counts::counted_text;
 use crate::fault::Fault;
-use crate::reports::report_bundle;
-use crate::runs::{WholeTape, run_bundle};
+use crate::reports::reported_text;
+use crate::runs::{WholeTape, ran_text};
 use crate::source::{compiled_text, evaluated_text};
-use crate::trials::{generated_text, trial_text};
+use crate::trials::{generated_text, tried_text};
 use mk_base::{Bytes, Sink, Source, Words, write_all};
 use mk_words::{Form, Status, TapeForm, elements_of, form_asked, probes_of};
 use std::alloc::Global;
@@ -92,17 +92,11 @@ fn run_on_words<S: Source>(
     let secrets = elements_of(alloc, secrets)?;
     let (publics, secrets) = (publics.as_slice(), secrets.as_slice());
     match tape {
-        TapeForm::Seed { seed } => run_bundle(
-            alloc,
-            src,
-            publics,
-            secrets,
-            WholeTape::Seed { seed },
-        ),
+        TapeForm::Seed { seed } => ran_text(alloc, src, publics, secrets, WholeTape::Seed { seed }),
         TapeForm::Elements { word } => {
             let elements = elements_of(alloc, word)?;
             let elements = elements.as_slice();
-            run_bundle(
+            ran_text(
                 alloc,
                 src,
                 publics,
@@ -136,7 +130,7 @@ fn counted_on_words<S: Source>(
     let first = elements_of(alloc, first)?;
     let second = elements_of(alloc, second)?;
     let probes = probes_of(alloc, probes)?;
-    count_bundle(
+    counted_text(
         alloc,
         src,
         publics.as_slice(),
@@ -177,9 +171,9 @@ fn text_asked<S: Source>(alloc: Global, words: &Words, src: &mut S) -> Result<By
                 probes,
             },
         ) => counted_on_words(alloc, src, publics, first, second, probes),
-        Some(Form::Report) => report_bundle(alloc, src),
+        Some(Form::Report) => reported_text(alloc, src),
         Some(Form::Gen { turns }) => generated_text(alloc, turns),
-        Some(Form::Trial { turns, order }) => trial_text(alloc, turns, order),
+        Some(Form::Trial { turns, order }) => tried_text(alloc, turns, order),
     }
 }
 

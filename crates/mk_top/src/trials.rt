@@ -54,7 +54,7 @@ fn line_of_trial(alloc: Global, code: &Code, cert: &Cert) -> Result<Bytes, Memor
 }
 
 /// The line of what the generator's text with so many turns is compiled to at an order.
-pub(crate) fn trial_text(alloc: Global, turns: u32, order: u8) -> Result<Bytes, Fault>
+pub(crate) fn tried_text(alloc: Global, turns: u32, order: u8) -> Result<Bytes, Fault>
     requires turns { (1 ≤ turns) × (turns ≤ 3276) }
     requires order { (1 ≤ order) × (order ≤ TOP_ORDER) }
     ensures tries { IfOk result (Tries turns order) }

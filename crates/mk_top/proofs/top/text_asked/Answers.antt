@@ -38,13 +38,13 @@ returns-in-Some-Check-clause-leaves g c =
 
 pub returns-in-Some-Report-clause-made : goal.returns-in-Some-Report-clause-made
 returns-in-Some-Report-clause-made g c =
-    made-asked c.args.words.now Report (g.S.Source.left c.args.src.now) (g.S.Source.left c.report_bundle.new.src) c.report_bundle.result
-    (subst (AsksSo c.args.words.now) c.in-Some-Report.field-0-is (c.in-Some-Report.ensures).asked) c.report_bundle.ensures.made
+    made-asked c.args.words.now Report (g.S.Source.left c.args.src.now) (g.S.Source.left c.reported_text.new.src) c.reported_text.result
+    (subst (AsksSo c.args.words.now) c.in-Some-Report.field-0-is (c.in-Some-Report.ensures).asked) c.reported_text.ensures.made
 
 pub returns-in-Some-Report-clause-unmade : goal.returns-in-Some-Report-clause-unmade
 returns-in-Some-Report-clause-unmade g c =
-    unmade-asked c.args.words.now Report (g.S.Source.left c.args.src.now) (g.S.Source.left c.report_bundle.new.src) (g.S.Source.faults c.args.src.now) (g.S.Source.faults c.report_bundle.new.src) c.report_bundle.result
-    (subst (AsksSo c.args.words.now) c.in-Some-Report.field-0-is (c.in-Some-Report.ensures).asked) c.report_bundle.ensures.unmade
+    unmade-asked c.args.words.now Report (g.S.Source.left c.args.src.now) (g.S.Source.left c.reported_text.new.src) (g.S.Source.faults c.args.src.now) (g.S.Source.faults c.reported_text.new.src) c.reported_text.result
+    (subst (AsksSo c.args.words.now) c.in-Some-Report.field-0-is (c.in-Some-Report.ensures).asked) c.reported_text.ensures.unmade
 
 pub returns-in-Some-Report-clause-leaves : goal.returns-in-Some-Report-clause-leaves
 returns-in-Some-Report-clause-leaves g c =
@@ -68,13 +68,13 @@ returns-in-Some-Gen-clause-leaves g c =
 
 pub returns-in-Some-Trial-clause-made : goal.returns-in-Some-Trial-clause-made
 returns-in-Some-Trial-clause-made g c =
-    made-unread c.args.words.now (Trial c.in-Some-Trial.turns c.in-Some-Trial.order) (g.S.Source.left c.args.src.now) (g.S.Source.left c.args.src.now) c.trial_text.result refl refl
-    (subst (AsksSo c.args.words.now) c.in-Some-Trial.field-0-is (c.in-Some-Trial.ensures).asked) c.trial_text.ensures.tries
+    made-unread c.args.words.now (Trial c.in-Some-Trial.turns c.in-Some-Trial.order) (g.S.Source.left c.args.src.now) (g.S.Source.left c.args.src.now) c.tried_text.result refl refl
+    (subst (AsksSo c.args.words.now) c.in-Some-Trial.field-0-is (c.in-Some-Trial.ensures).asked) c.tried_text.ensures.tries
 
 pub returns-in-Some-Trial-clause-unmade : goal.returns-in-Some-Trial-clause-unmade
 returns-in-Some-Trial-clause-unmade g c =
-    unmade-unread c.args.words.now (Trial c.in-Some-Trial.turns c.in-Some-Trial.order) (g.S.Source.left c.args.src.now) (g.S.Source.left c.args.src.now) (g.S.Source.faults c.args.src.now) (g.S.Source.faults c.args.src.now) c.trial_text.result refl refl
-    (subst (AsksSo c.args.words.now) c.in-Some-Trial.field-0-is (c.in-Some-Trial.ensures).asked) c.trial_text.ensures.fault
+    unmade-unread c.args.words.now (Trial c.in-Some-Trial.turns c.in-Some-Trial.order) (g.S.Source.left c.args.src.now) (g.S.Source.left c.args.src.now) (g.S.Source.faults c.args.src.now) (g.S.Source.faults c.args.src.now) c.tried_text.result refl refl
+    (subst (AsksSo c.args.words.now) c.in-Some-Trial.field-0-is (c.in-Some-Trial.ensures).asked) c.tried_text.ensures.fault
 
 pub returns-in-Some-Trial-clause-leaves : goal.returns-in-Some-Trial-clause-leaves
 returns-in-Some-Trial-clause-leaves g c =

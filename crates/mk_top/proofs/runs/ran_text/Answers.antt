@@ -5,7 +5,7 @@ use Rattle.mk_top.specs.Forms.{given_of}
 use Rattle.mk_top.specs.Headline.{Makes}
 use Rattle.mk_top.specs.Running.{NotMade}
 use Rattle.mk_top.proofs.Given.{made-given, no_text-given}
-use Rattle.mk_top.proofs.runs.run_bundle.Goals as goal
+use Rattle.mk_top.proofs.runs.ran_text.Goals as goal
 
 pub returns-clause-made : goal.returns-clause-made
 returns-clause-made g c =

@@ -4,7 +4,7 @@ use Rattle.mk_words.specs.Words.{Count}
 use Rattle.mk_top.specs.Headline.{Makes}
 use Rattle.mk_top.specs.Running.{NotMade}
 use Rattle.mk_top.proofs.Given.{made-given, no_text-given}
-use Rattle.mk_top.proofs.counts.count_bundle.Goals as goal
+use Rattle.mk_top.proofs.counts.counted_text.Goals as goal
 
 pub returns-clause-made : goal.returns-clause-made
 returns-clause-made g c =
