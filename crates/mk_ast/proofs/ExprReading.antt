@@ -59,6 +59,7 @@ inner_expr (suc brackets) = after (codes "(") (until (codes ")") (sum brackets))
 abbrev factor_at : ℕ → Phrase Expr
 factor_at brackets = factor brackets (inner_expr brackets)
 
+-- a product of such factors
 abbrev product_at : ℕ → Phrase Expr
 product_at brackets = product brackets (inner_expr brackets)
 
@@ -86,6 +87,7 @@ by_sum (suc brackets) e t reading = reading
 product_alone : (brackets : ℕ) (e : Expr) (t : List ℕ) → ReadsExpr (factor_at brackets) e t → ReadsExpr (product_at brackets) e t
 product_alone brackets e t reading = reads_alone (factor_at brackets) placeless_expr (codes "*") expr.Product e t reading
 
+-- what is read as a product is read as a sum
 sum_alone : (brackets : ℕ) (e : Expr) (t : List ℕ) → ReadsExpr (product_at brackets) e t → ReadsExpr (sum brackets) e t
 sum_alone brackets e t reading = by_sum brackets e t (reads_alone (product_at brackets) placeless_expr (codes "+") expr.Sum e t reading)
 

@@ -49,6 +49,7 @@ indent_end : (loops : ℕ) → indent (suc loops) ≡ indent loops ++ codes "  "
 indent_end zero = refl
 indent_end (suc loops) = ap (λ t. codes "  " ++ t) (indent_end loops)
 
+-- an indent that gets two more spaces is that of one more loop
 pub indent_more : (old : List ℕ) (loops : ℕ) → (old ++ indent loops) ++ codes "  " ≡ old ++ indent (loops + 1)
 indent_more old loops =
     append_assoc old (indent loops) (codes "  ") ∙ ap (λ t. old ++ t) (sym (indent_end loops) ∙ ap indent (sym (add-one loops)))

@@ -45,6 +45,7 @@ stmt_layers = rec-roll-Stmt (ℕ → Type 0) (λ X tree. IsRegularStmtLayer X) n
 pub regular_stmt : (d : Stmt-F Stmt) (brackets : ℕ) → IsRegularStmt (stmt_views.roll-Stmt d) brackets → IsRegularStmtLayer Stmt IsRegularStmt d brackets
 regular_stmt d brackets = subst (λ (R : ℕ → Type 0). R brackets) (stmt_layers d)
 
+-- a statement whose layer is regular is regular
 pub regular_stmt_made : (d : Stmt-F Stmt) (brackets : ℕ) → IsRegularStmtLayer Stmt IsRegularStmt d brackets → IsRegularStmt (stmt_views.roll-Stmt d) brackets
 regular_stmt_made d brackets = subst (λ (R : ℕ → Type 0). R brackets) (sym (stmt_layers d))
 
@@ -83,6 +84,7 @@ expr_layers = rec-roll-Expr (ℕ → Type 0) IsRegularExprLayer natural_expr
 pub regular_expr : (d : Expr-F Expr) (brackets : ℕ) → IsRegularExpr (expr_views.roll-Expr d) brackets → IsRegularExprLayer Expr (λ y. y) IsRegularExpr d brackets
 regular_expr d brackets = subst (λ (R : ℕ → Type 0). R brackets) (expr_layers d)
 
+-- an expression whose layer is regular is regular
 pub regular_expr_made : (d : Expr-F Expr) (brackets : ℕ) → IsRegularExprLayer Expr (λ y. y) IsRegularExpr d brackets → IsRegularExpr (expr_views.roll-Expr d) brackets
 regular_expr_made d brackets = subst (λ (R : ℕ → Type 0). R brackets) (sym (expr_layers d))
 
@@ -131,6 +133,7 @@ pub regular_index : (d : Index-F Index Link) (brackets : ℕ) → IsRegularIndex
     IsRegularIndexLayer Index Link (λ y. y) IsRegularIndex IsRegularLink d brackets
 regular_index d brackets = subst (λ (R : ℕ → Type 0). R brackets) (index_layers d)
 
+-- an index whose layer is regular is regular
 pub regular_index_made : (d : Index-F Index Link) (brackets : ℕ) →
     IsRegularIndexLayer Index Link (λ y. y) IsRegularIndex IsRegularLink d brackets → IsRegularIndex (index_views.roll-Index d) brackets
 regular_index_made d brackets = subst (λ (R : ℕ → Type 0). R brackets) (sym (index_layers d))
@@ -140,6 +143,7 @@ pub regular_link : (d : Link-F Index Link) (brackets : ℕ) → IsRegularLink (i
     IsRegularLinkLayer Index Link (λ y. y) IsRegularIndex IsRegularLink d brackets
 regular_link d brackets = subst (λ (R : ℕ → Type 0). R brackets) (link_layers d)
 
+-- a link whose layer is regular is regular
 pub regular_link_made : (d : Link-F Index Link) (brackets : ℕ) →
     IsRegularLinkLayer Index Link (λ y. y) IsRegularIndex IsRegularLink d brackets → IsRegularLink (index_views.roll-Link d) brackets
 regular_link_made d brackets = subst (λ (R : ℕ → Type 0). R brackets) (sym (link_layers d))

@@ -46,6 +46,7 @@ pub within_more : (P : ℕ → Type 0) → Grows P → Grows (Within P)
 within_more P more zero h = absurd h
 within_more P more (suc brackets) h = more brackets h
 
+-- what grows does so within parentheses that may be needed
 pub wrapped_more : (needed : Bool) (P : ℕ → Type 0) → Grows P → Grows (Wrapped needed P)
 wrapped_more true P more = within_more P more
 wrapped_more false P more = more
@@ -73,6 +74,7 @@ layer_of : (i : Index) (d : Index-F Index Link) → index_views.roll-Index d ≡
     IsRegularIndexLayer Index Link (λ y. y) IsRegularIndex IsRegularLink d brackets
 layer_of i d is brackets h = regular_index d brackets (subst (λ x. IsRegularIndex x brackets) (sym is) h)
 
+-- an index whose layer is regular is regular
 of_layer : (i : Index) (d : Index-F Index Link) → index_views.roll-Index d ≡ i → (brackets : ℕ) →
     IsRegularIndexLayer Index Link (λ y. y) IsRegularIndex IsRegularLink d brackets → IsRegularIndex i brackets
 of_layer i d is brackets h = subst (λ x. IsRegularIndex x brackets) is (regular_index_made d brackets h)
@@ -82,6 +84,7 @@ link_layer_of : (l : Link) (d : Link-F Index Link) → index_views.roll-Link d �
     IsRegularLinkLayer Index Link (λ y. y) IsRegularIndex IsRegularLink d brackets
 link_layer_of l d is brackets h = regular_link d brackets (subst (λ x. IsRegularLink x brackets) (sym is) h)
 
+-- a link whose layer is regular is regular
 of_link_layer : (l : Link) (d : Link-F Index Link) → index_views.roll-Link d ≡ l → (brackets : ℕ) →
     IsRegularLinkLayer Index Link (λ y. y) IsRegularIndex IsRegularLink d brackets → IsRegularLink l brackets
 of_link_layer l d is brackets h = subst (λ x. IsRegularLink x brackets) is (regular_link_made d brackets h)
@@ -90,6 +93,7 @@ of_link_layer l d is brackets h = subst (λ x. IsRegularLink x brackets) is (reg
 abbrev IndexGrows : Index → Type 0
 IndexGrows i = Grows (IsRegularIndex i)
 
+-- a regular link is regular with one more bracket
 abbrev LinkGrows : Link → Type 0
 LinkGrows l = Grows (IsRegularLink l)
 

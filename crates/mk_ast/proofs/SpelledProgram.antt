@@ -39,6 +39,7 @@ subscript_grows : (o : Option Index) → Grows (IsRegularSubscript o)
 subscript_grows None brackets h = tt
 subscript_grows (Some i) brackets h = within_more (IsRegularIndex i) (index_grows i) brackets h
 
+-- a regular reference is regular with one more bracket
 ref_grows : (r : Ref) → Grows (IsRegularRef r)
 ref_grows r brackets h = (h.0, subscript_grows r.index brackets h.1)
 
@@ -62,6 +63,7 @@ layer_of : (e : Expr) (d : Expr-F Expr) → expr_views.roll-Expr d ≡ e → (br
     IsRegularExprLayer Expr (λ y. y) IsRegularExpr d brackets
 layer_of e d is brackets h = regular_expr d brackets (subst (λ x. IsRegularExpr x brackets) (sym is) h)
 
+-- an expression whose layer is regular is regular
 of_layer : (e : Expr) (d : Expr-F Expr) → expr_views.roll-Expr d ≡ e → (brackets : ℕ) →
     IsRegularExprLayer Expr (λ y. y) IsRegularExpr d brackets → IsRegularExpr e brackets
 of_layer e d is brackets h = subst (λ x. IsRegularExpr x brackets) is (regular_expr_made d brackets h)

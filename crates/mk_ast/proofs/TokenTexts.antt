@@ -3,46 +3,59 @@ use Rattle.std.proofs.Common.{◌≡◌, ◌≢◌, ℕ, zero, suc, ◌+◌, ◌
 use Rattle.mk_ast.specs.Tokens.{IsToken, IsWord, IsName, IsElement, hex_value, symbols, NothingGoesOn, IsGap}
 use Rattle.mk_ast.specs.Phrases.{Phrase, after}
 use Rattle.mk_ast.specs.Grammar.{name, number, size, element, meaning}
-use Rattle.mk_ast.specs.Canonical.{hex_digit, element_text}
+use Rattle.mk_ast.specs.Canonical.{element_text}
+use Rattle.mk_field.specs.Digits.{hex_digit}
 use Rattle.mk_ast.proofs.Reading.{Reading, reads_one, reads_gap, reads_after}
 
 -- the symbols
 pub is_semicolon : Contains symbols (codes ";")
 is_semicolon = (0, lit< tt, refl)
 
+-- `=` is the second of them
 pub is_equals : Contains symbols (codes "=")
 is_equals = (1, lit< tt, refl)
 
+-- `,` is one
 pub is_comma : Contains symbols (codes ",")
 is_comma = (2, lit< tt, refl)
 
+-- `+` is one
 pub is_plus : Contains symbols (codes "+")
 is_plus = (3, lit< tt, refl)
 
+-- `*` is one
 pub is_times : Contains symbols (codes "*")
 is_times = (4, lit< tt, refl)
 
+-- `%` is one
 pub is_percent : Contains symbols (codes "%")
 is_percent = (5, lit< tt, refl)
 
+-- `(` is one
 pub is_opening : Contains symbols (codes "(")
 is_opening = (6, lit< tt, refl)
 
+-- `)` is one
 pub is_closing : Contains symbols (codes ")")
 is_closing = (7, lit< tt, refl)
 
+-- `[` is one
 pub is_square_opening : Contains symbols (codes "[")
 is_square_opening = (8, lit< tt, refl)
 
+-- `]` is one
 pub is_square_closing : Contains symbols (codes "]")
 is_square_closing = (9, lit< tt, refl)
 
+-- `{` is one
 pub is_curly_opening : Contains symbols (codes "{")
 is_curly_opening = (10, lit< tt, refl)
 
+-- `}` is one
 pub is_curly_closing : Contains symbols (codes "}")
 is_curly_closing = (11, lit< tt, refl)
 
+-- `..` is the last of them
 pub is_dots : Contains symbols (codes "..")
 is_dots = (12, lit< tt, refl)
 
@@ -54,33 +67,43 @@ word_token w rest is r = inr (inl is, r)
 pub is_field : IsWord (codes "field")
 is_field = (refl, (refl, (refl, (refl, (refl, tt)))), lit< tt)
 
+-- `gf2` is a word
 pub is_gf2 : IsWord (codes "gf2")
 is_gf2 = (refl, (refl, (refl, tt)), lit< tt)
 
+-- `gf256` is a word
 pub is_gf256 : IsWord (codes "gf256")
 is_gf256 = (refl, (refl, (refl, (refl, (refl, tt)))), lit< tt)
 
+-- `map` is a word
 pub is_map : IsWord (codes "map")
 is_map = (refl, (refl, (refl, tt)), lit< tt)
 
+-- `secret` is a word
 pub is_secret : IsWord (codes "secret")
 is_secret = (refl, (refl, (refl, (refl, (refl, (refl, tt))))), lit< tt)
 
+-- `public` is a word
 pub is_public : IsWord (codes "public")
 is_public = (refl, (refl, (refl, (refl, (refl, (refl, tt))))), lit< tt)
 
+-- `output` is a word
 pub is_output : IsWord (codes "output")
 is_output = (refl, (refl, (refl, (refl, (refl, (refl, tt))))), lit< tt)
 
+-- `local` is a word
 pub is_local : IsWord (codes "local")
 is_local = (refl, (refl, (refl, (refl, (refl, tt)))), lit< tt)
 
+-- `for` is a word
 pub is_for : IsWord (codes "for")
 is_for = (refl, (refl, (refl, tt)), lit< tt)
 
+-- `in` is a word
 pub is_in : IsWord (codes "in")
 is_in = (refl, (refl, tt), lit< tt)
 
+-- `sq` is a word
 pub is_sq : IsWord (codes "sq")
 is_sq = (refl, (refl, tt), lit< tt)
 

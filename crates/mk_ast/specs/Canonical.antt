@@ -1,9 +1,10 @@
 -- The canonical text of a program, by cases over its tree: each declaration and statement on a line of
 -- its own, parentheses exactly round a sum in a sum, a product or a chain, a product in a product and a
 -- chain in a chain. The language is this project's own; docs/LANGUAGE.md has its grammar.
-use Rattle.std.specs.Prelude.{ℕ, zero, suc, ◌+◌, ◌/◌, ◌%◌, Bool, true, false, ◌||◌, List, [], ◌∷◌, ◌++◌, Option, Some, None, map, flat_map, nat_lt, if◌then◌else◌, codes, decimal}
+use Rattle.std.specs.Prelude.{ℕ, zero, suc, ◌+◌, Bool, true, false, ◌||◌, List, [], ◌∷◌, ◌++◌, Option, Some, None, map, flat_map, if◌then◌else◌, codes, decimal}
 use Rattle.mk_field.specs.declared.field.FieldId.{FieldId}
 use Rattle.mk_field.specs.declared.field.FieldId.TheVariants.{Gf2, Gf256}
+use Rattle.mk_field.specs.Digits.{hex_byte}
 use Rattle.mk_ast.specs.declared.tree.Program.{Program}
 use Rattle.mk_ast.specs.declared.tree.Decl.{Decl}
 use Rattle.mk_ast.specs.declared.tree.What.{What}
@@ -37,13 +38,9 @@ parenthesized text = codes "(" ++ text ++ codes ")"
 abbrev pub wrapped : Bool → List ℕ → List ℕ
 wrapped needed text = if needed then parenthesized text else text
 
--- a number below 16 as a digit: 0 to 9, then a to f
-abbrev pub hex_digit : ℕ → ℕ
-hex_digit n = if nat_lt n 10 then 48 + n else 87 + n
-
 -- an element: `0x` and two digits
 abbrev pub element_text : ℕ → List ℕ
-element_text value = codes "0x" ++ hex_digit (value / 16) ∷ hex_digit (value % 16) ∷ []
+element_text value = codes "0x" ++ hex_byte value
 
 -- Indexes. A sum is a sum of products, a product one of factors. So parentheses stand round a sum that
 -- is a part of a sum, and round a sum or a chain that is a part of a chain.

@@ -1,4 +1,4 @@
-ghost use Rattle.std.specs.Prelude.{◌≡◌, ◌<◌, ◌^◌, [], ◌∷◌, ◌++◌, length, IfOk, OnOk, OnErr, IsTrue, ◌↔◌};
+ghost use Rattle.std.specs.Prelude.{◌≡◌, ◌≤◌, ◌<◌, ◌^◌, [], ◌∷◌, ◌++◌, length, IfOk, OnOk, OnErr, IsTrue, ◌↔◌};
 
 use std::alloc::{AllocError, AllocFailed, Global};
 use std::marker::Model;
@@ -89,6 +89,17 @@ impl<T> Items<T> {
 }
 
 impl<T: Drop> Items<T> {
+    /// The list of the items of a vector. No list has memory for 2^32 items. It takes no memory.
+    pub fn try_from_vec(items: Vec<T>) -> Result<Items<T>, Memory>
+        ensures ok { IfOk result (λ list. list ≡ items.items) }
+        ensures memory { OnErr result (2 ^ 32 ≤ length items.items) }
+    {
+        if items.len() >= 0x1_0000_0000 {
+            return Err(Memory);
+        }
+        Ok(Items { items })
+    }
+
     /// Appends an item. After `Memory` the list is as before. No list has memory for 2^32 items.
     pub fn push(&mut self, item: T) -> Result<(), Memory>
         ensures ok { OnOk result (self.new ≡ self.old ++ item ∷ []) }

@@ -1,6 +1,5 @@
 -- Texts that are appended one after the other, and the lines of outputs.
-use Rattle.std.proofs.Common.{◌≡◌, ℕ, suc, List, [], ◌++◌, take, drop, Result, Ok, Err, append_assoc}
-use Rattle.std.specs.Result.{IfOk}
+use Rattle.std.proofs.Common.{◌≡◌, ℕ, suc, List, [], ◌++◌, take, drop, append_assoc}
 use Rattle.mk_lines.specs.CodeLines.{out_line, out_lines}
 
 -- no output has no line
@@ -24,8 +23,3 @@ five_appended start first second third fourth last a b c d e p q r s t = simp (t
 pub line_moved : (before after line rest left whole : List ℕ)
     → after ≡ before ++ line → left ≡ line ++ rest → before ++ left ≡ whole → after ++ rest ≡ whole
 line_moved before after line rest left whole p q r = simp (p, append_assoc) (rw q at r)
-
--- what holds anyway holds of a value
-pub if_ok_always : {T E : Type 0} (r : Result T E) (P : Type 0) → P → IfOk r (λ _. P)
-if_ok_always (Ok x) P p = p
-if_ok_always (Err e) P p = tt

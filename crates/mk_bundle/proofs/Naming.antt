@@ -10,7 +10,8 @@ use Rattle.mk_lines.specs.CertLines.{op_line, claim_line}
 use Rattle.mk_lines.specs.CodeLines.{map_line, instr_line, out_lines}
 use Rattle.mk_bundle.specs.Text.{field_line, number_line, head_lines, text}
 use Rattle.mk_lines.specs.Lines.{AreLines, BeginsWith, GoesWellFor, NamesFirst}
-use Rattle.mk_bundle.specs.Pairs.{IsPair, IsBundleText, TextsDiffer}
+use Rattle.mk_rules.specs.Pairs.{IsPair}
+use Rattle.mk_bundle.specs.Pairs.{IsBundleText, TextsDiffer}
 use Rattle.mk_bundle.specs.declared.draft.Stage.{Stage}
 use Rattle.mk_bundle.specs.declared.draft.Stage.TheVariants.{Version, Field, Order, Secrets, Publics, Upper, Lower, Ended}
 use Rattle.mk_lines.specs.Parsing.{◌>>=◌}
@@ -20,19 +21,23 @@ use Rattle.mk_lines.proofs.Feeds.{first_line, has_feed}
 use Rattle.mk_bundle.proofs.Sound.{at, text_at, upper_text, lower_text, Good, IsFresh, fresh_pair, line_goes}
 use Rattle.mk_bundle.proofs.Complete.{text_runs, lines_read-append, All-append, All-front, All-back}
 
+-- what was read so far is good at its stage
 abbrev GoodAt : State → Type 0
 GoodAt st = Good st.stage st.code st.cert
 
+-- the text of what was read so far
 abbrev so_far : State → List ℕ
 so_far st = text_at st.stage st.code st.cert
 
 -- ---- what was read
 
+-- nothing read yet is good
 start_good : GoodAt start
 start_good =
     let fresh : IsFresh start.code start.cert = record { maps = refl; instrs = refl; outs = refl; blocks = refl; claims = refl } in
     record { pair = fresh_pair start.code start.cert fresh (omega arith, omega arith) (omega arith) (omega arith); blank = fresh }
 
+-- lines that are read from a good state lead to a good one, and its text is longer by just these lines
 all_go : (lines : List (List ℕ)) (from to : State) → GoodAt from → lines_read from lines ≡ Some to → GoodAt to × (so_far to ≡ so_far from ++ flat_map line lines)
 unfolding lines_read
 all_go [] from to good e = subst (λ (st : State). GoodAt st × (so_far st ≡ so_far from ++ [])) (same_some from to e) (good, sym (append-nil (so_far from)))
@@ -42,9 +47,11 @@ all_go (l ∷ lines) from to good e =
     let others = all_go lines a.0 to goes.good a.2 in
     (others.0, others.1 ∙ ap (λ (r : List ℕ). r ++ flat_map line lines) goes.more ∙ append_assoc (so_far from) (line l) (flat_map line lines))
 
+-- lines that are read from the start on lead to a good state, and its text is these lines
 pub reached : (lines : List (List ℕ)) (st : State) → lines_read start lines ≡ Some st → GoodAt st × (so_far st ≡ flat_map line lines)
 reached lines st e = all_go lines start st start_good e
 
+-- a code of which lines were read keeps the bounds
 pub bounds : (lines : List (List ℕ)) (st : State) → lines_read start lines ≡ Some st → HasBounds st.code
 bounds lines st e =
     let listing = (reached lines st e).0.pair.listing in
@@ -52,12 +59,15 @@ bounds lines st e =
 
 -- ---- the text of the pair goes on with it
 
+-- a list that begins with another
 abbrev Front : List ℕ → List ℕ → Type 0
 Front xs ys = (rest : List ℕ) × (ys ≡ xs ++ rest)
 
+-- what a list begins with, it begins with too where more stands behind it
 front_more : (xs ys more : List ℕ) → Front xs ys → Front xs (ys ++ more)
 front_more xs ys more h = (h.0 ++ more, ap (λ (r : List ℕ). r ++ more) h.1 ∙ append_assoc xs h.0 more)
 
+-- a list begins with itself
 front_same : (xs : List ℕ) → Front xs xs
 front_same xs = ([], sym (append-nil xs))
 
@@ -69,21 +79,26 @@ from_upper xs code cert h =
     let outs : List ℕ = out_lines (code.order + 1) (length code.outs / (code.order + 1)) code.outs in
     front_more xs (lower_text code cert) (line (codes "end")) (front_more xs filled outs (front_more xs begun (flat_map instr_line code.instrs) (front_more xs (upper_text code cert) (line (codes "code")) h)))
 
+-- the text of a pair begins with what its head begins with
 from_head : (xs : List ℕ) (code : Listing) (cert : Claimed) → Front xs (head_lines code) → Front xs (text code cert)
 from_head xs code cert h =
     let mapped : List ℕ = head_lines code ++ flat_map map_line code.maps in
     let filled : List ℕ = head_lines code ++ flat_map map_line code.maps ++ flat_map op_line cert.blocks in
     from_upper xs code cert (front_more xs filled (flat_map claim_line cert.claims) (front_more xs mapped (flat_map op_line cert.blocks) (front_more xs (head_lines code) (flat_map map_line code.maps) h)))
 
+-- the text of a pair begins with what the lines before the number of publics begin with
 from_publics : (xs : List ℕ) (code : Listing) (cert : Claimed) → Front xs (text_at Publics code cert) → Front xs (text code cert)
 from_publics xs code cert h = from_head xs code cert (front_more xs (text_at Publics code cert) (number_line (codes "publics") code.publics) h)
 
+-- the same for the lines before the number of secrets
 from_secrets : (xs : List ℕ) (code : Listing) (cert : Claimed) → Front xs (text_at Secrets code cert) → Front xs (text code cert)
 from_secrets xs code cert h = from_publics xs code cert (front_more xs (text_at Secrets code cert) (number_line (codes "secrets") code.secrets) h)
 
+-- the same for the lines before the order
 from_order : (xs : List ℕ) (code : Listing) (cert : Claimed) → Front xs (text_at Order code cert) → Front xs (text code cert)
 from_order xs code cert h = from_secrets xs code cert (front_more xs (text_at Order code cert) (number_line (codes "order") code.order) h)
 
+-- the text of a pair begins with what stands before any stage of it
 completes : (stage : Stage) (code : Listing) (cert : Claimed) → Front (text_at stage code cert) (text code cert)
 completes Version code cert = (text code cert, refl)
 completes Field code cert =
@@ -97,9 +112,11 @@ completes Ended code cert = front_same (text code cert)
 
 -- ---- lines and their bytes
 
+-- the bytes of lines begin with the first of them and its line feed
 joined : (l : List ℕ) (lines : List (List ℕ)) (rest : List ℕ) → flat_map line (l ∷ lines) ++ rest ≡ l ++ 10 ∷ (flat_map line lines ++ rest)
 joined l lines rest = append_assoc (line l) (flat_map line lines) rest ∙ append_assoc l (10 ∷ []) (flat_map line lines ++ rest)
 
+-- bytes in which a line feed stands are some
 not_nil : (l rest : List ℕ) → [] ≡ l ++ 10 ∷ rest → ⊥
 not_nil [] rest e = absurd cc
 not_nil (b ∷ l) rest e = absurd cc
@@ -125,6 +142,7 @@ last_line (k ∷ lines) (l ∷ longer) rest left clean clean_longer one e =
     let others = last_line lines longer rest left clean.1 clean_longer.1 (omega (arith, one)) first.1 in
     (others.0, ap (λ (v : List ℕ). v ∷ longer) (sym first.0) ∙ ap (λ (vs : List (List ℕ)). k ∷ vs) others.1, others.2, others.3)
 
+-- there are at most as many lines as bytes in them
 pub few_lines : (lines : List (List ℕ)) → length lines ≤ length (flat_map line lines)
 few_lines [] = omega arith
 few_lines (l ∷ lines) =
@@ -146,10 +164,12 @@ pub record Progress (bytes rest : List ℕ) (number : ℕ) (st : State) : Type 0
 abbrev pub Stuck : State → List ℕ → Type 0
 Stuck st rest = (l behind : List ℕ) → is_line l ≡ true → rest ≡ l ++ 10 ∷ behind → line_read st l ≡ None
 
+-- before the first line nothing was read and all is left
 pub begun : (bytes : List ℕ) → Progress bytes bytes 1 start
 unfolding lines_read
 begun bytes = record { lines = []; clean = tt; parts = refl; read = refl; count = omega arith }
 
+-- one line more that is read brings reading one line further
 pub further : (bytes rest l behind : List ℕ) (number : ℕ) (st next : State) → Progress bytes rest number st → is_line l ≡ true → rest ≡ l ++ 10 ∷ behind → line_read st l ≡ Some next → Progress bytes behind (number + 1) next
 unfolding lines_read
 further bytes rest l behind number st next so clean here e = record {
@@ -170,8 +190,9 @@ goes_well : (lines : List (List ℕ)) (bytes rest : List ℕ) (st : State) → A
 goes_well lines bytes rest st clean parts e =
     let h = reached lines st e in
     let all = completes st.stage st.code st.cert in
-    (lines, clean, refl, (rest, parts), (text st.code st.cert, (st.code, st.cert, h.0.pair, refl), (all.0, all.1 ∙ ap (λ (r : List ℕ). r ++ all.0) h.1)))
+    (lines, clean, refl, (rest, parts), (text st.code st.cert, (st.code, st.cert, (h.0.pair, refl)), (all.0, all.1 ∙ ap (λ (r : List ℕ). r ++ all.0) h.1)))
 
+-- as far as was read the text goes well for any smaller number of lines too
 goes_well_before : (lines : List (List ℕ)) (bytes rest : List ℕ) (st : State) (m : ℕ) → AreLines lines → bytes ≡ flat_map line lines ++ rest → lines_read start lines ≡ Some st → m ≤ length lines → GoesWellFor IsBundleText m bytes
 goes_well_before lines bytes rest st m clean parts e le =
     let cut : take m lines ++ drop m lines ≡ lines = take-append-drop m lines in
@@ -185,11 +206,12 @@ goes_well_before lines bytes rest st m clean parts e le =
 -- the lines that a bundle text begins with are read
 read_front : (lines : List (List ℕ)) (whole : List ℕ) → AreLines lines → IsBundleText whole → BeginsWith lines whole → (st : State) × (lines_read start lines ≡ Some st)
 read_front lines whole clean text_of begins =
-    let runs = text_runs text_of.0 text_of.1 text_of.2 in
-    let h = prefix_lines lines runs.lines begins.0 clean runs.clean (sym runs.spelled ∙ sym text_of.3 ∙ begins.1) in
+    let runs = text_runs text_of.0 text_of.1 text_of.2.0 in
+    let h = prefix_lines lines runs.lines begins.0 clean runs.clean (sym runs.spelled ∙ sym text_of.2.1 ∙ begins.1) in
     let a = bind_some (lines_read start lines) (λ (next : State). lines_read next h.0) (at Ended text_of.0 text_of.1) (sym (lines_read-append start lines h.0) ∙ ap (lines_read start) (sym h.1) ∙ runs.read) in
     (a.0, a.1)
 
+-- with a line that is not read the text does not go well
 no_further : (bytes rest : List ℕ) (number : ℕ) (st : State) → Progress bytes rest number st → Stuck st rest → GoesWellFor IsBundleText number bytes → ⊥
 unfolding lines_read
 no_further bytes rest number st so stuck well =
@@ -202,6 +224,7 @@ no_further bytes rest number st so stuck well =
     let never : ◌≡◌ {A = Option State} (Some front.0) None = sym front.1 ∙ read in
     absurd (cc)
 
+-- where reading is stuck, the number of the next line is that of the first line that goes wrong
 pub names : (bytes rest : List ℕ) (number : ℕ) (st : State) → Progress bytes rest number st → Stuck st rest → NamesFirst IsBundleText number bytes
 names bytes rest number st so stuck = (
   omega (arith, so.count),
@@ -213,8 +236,8 @@ names bytes rest number st so stuck = (
 pub no_text : (bytes rest : List ℕ) (number : ℕ) (st : State) → Progress bytes rest number st → Stuck st rest → (rest ≡ [] → st.stage ≡ Ended → ⊥) → IsBundleText bytes → ⊥
 unfolding lines_read
 no_text bytes rest number st so stuck unended text_of =
-    let runs = text_runs text_of.0 text_of.1 text_of.2 in
-    let h = prefix_lines so.lines runs.lines rest so.clean runs.clean (sym runs.spelled ∙ sym text_of.3 ∙ so.parts) in
+    let runs = text_runs text_of.0 text_of.1 text_of.2.0 in
+    let h = prefix_lines so.lines runs.lines rest so.clean runs.clean (sym runs.spelled ∙ sym text_of.2.1 ∙ so.parts) in
     let left : lines_read st h.0 ≡ Some (at Ended text_of.0 text_of.1) =
     ap (λ (o : Option State). o >>= λ next. lines_read next h.0) (sym so.read) ∙ sym (lines_read-append start so.lines h.0) ∙ ap (lines_read start) (sym h.1) ∙ runs.read in
     by h.0 (All-back (λ l. is_line l ≡ true) so.lines h.0 (subst AreLines h.1 runs.clean)) left h.2
@@ -241,20 +264,24 @@ stuck_at st rest l behind clean here none = λ m left clean_m there. (
     let same = first_line m l left behind clean_m clean (sym there ∙ here) in
     ap (line_read st) same.0 ∙ none)
 
+-- where a line feed is left, something is left
 pub some_left : (rest l behind : List ℕ) → rest ≡ l ++ 10 ∷ behind → rest ≡ [] → ⊥
 some_left rest l behind here none = not_nil l behind (sym none ∙ here)
 
+-- where no line feed is left, no line is read
 pub stuck_end : (st : State) (rest : List ℕ) → is_line rest ≡ true → Stuck st rest
 stuck_end st rest clean = λ l behind clean_l here. absurd (has_feed l behind (ap is_line (sym here) ∙ clean))
 
 -- ---- texts differ
 
+-- different pairs have different texts, and no text of a pair is a proper front of another's
 pub differ : TextsDiffer
 unfolding lines_read read_at
-differ code other_code cert other_cert rest pair other_pair e =
-    let runs = text_runs code cert pair in
-    let others = text_runs other_code other_cert other_pair in
-    let h = prefix_lines others.lines runs.lines rest others.clean runs.clean (sym runs.spelled ∙ e ∙ ap (λ (r : List ℕ). r ++ rest) others.spelled) in
+differ bytes rest code other_code cert other_cert whole front =
+    let runs = text_runs code cert whole.0 in
+    let others = text_runs other_code other_cert front.0 in
+    let h = prefix_lines others.lines runs.lines rest others.clean runs.clean
+    (sym runs.spelled ∙ sym whole.1 ∙ ap (λ (r : List ℕ). r ++ rest) (front.1 ∙ others.spelled)) in
     let left : lines_read (at Ended other_code other_cert) h.0 ≡ Some (at Ended code cert) =
     ap (λ (o : Option State). o >>= λ next. lines_read next h.0) (sym others.read) ∙ sym (lines_read-append start others.lines h.0) ∙ ap (lines_read start) (sym h.1) ∙ runs.read in
     by h.0 left h.2

@@ -11,23 +11,25 @@ use Rattle.std.proofs.Math.Nat.{zero-div, mul-div_cancel, lt_of_mul-lt-mul_right
 use Rattle.mk_field.specs.declared.field.FieldId.{FieldId}
 use Rattle.mk_field.specs.declared.field.FieldId.TheVariants.{Gf2, Gf256}
 use Rattle.mk_field.specs.declared.map.AddMap.{AddMap}
-use Rattle.mk_field.specs.Field.{size}
+use Rattle.mk_field.specs.Field.{size, HasMapsOnlyInBytes, has_maps}
 use Rattle.mk_ssa.specs.declared.Operand.{Operand}
 use Rattle.mk_ssa.specs.declared.Op.{Op}
 use Rattle.mk_code.specs.declared.instr.Instr.{Instr}
 use Rattle.mk_code.specs.declared.instr.Instr.TheVariants as instr
-use Rattle.mk_code.specs.Listing.{Listing, IsListing, HasMapsOnlyInBytes, AllFit, FitsAt, inputs_len, trace_len}
+use Rattle.mk_code.specs.Listing.{Listing, IsListing, AllFit, FitsAt, inputs_len, trace_len}
 use Rattle.mk_code.proofs.Instrs.{AllFit-push}
 use Rattle.mk_rules.specs.Claimed.{Claimed}
-use Rattle.mk_lines.specs.Words.{OperandFits, line}
-use Rattle.mk_lines.specs.CertLines.{op_line, claim_line, OpFits}
-use Rattle.mk_lines.specs.CodeLines.{map_line, instr_line, out_line, out_lines, MapFits}
+use Rattle.mk_lines.specs.Words.{line}
+use Rattle.mk_ssa.specs.Widths.{OperandFits, OpFits}
+use Rattle.mk_lines.specs.CertLines.{op_line, claim_line}
+use Rattle.mk_lines.specs.CodeLines.{map_line, instr_line, out_line, out_lines}
+use Rattle.mk_field.specs.Maps.{MapFits}
 use Rattle.mk_bundle.specs.Text.{field_line, number_line, head_lines, text}
-use Rattle.mk_bundle.specs.Pairs.{IsPair}
+use Rattle.mk_rules.specs.Pairs.{IsPair}
 use Rattle.mk_bundle.specs.declared.draft.Stage.{Stage}
 use Rattle.mk_bundle.specs.declared.draft.Stage.TheVariants.{Version, Field, Order, Secrets, Publics, Upper, Lower, Ended}
 use Rattle.mk_lines.specs.Parsing.{◌>>=◌, after, number_of, map_of, operand_of, op_of, instr_of, places_of}
-use Rattle.mk_bundle.specs.Reading.{State, version_line, field_line_of, field_read, headed, order_read, secrets_read, publics_read, has_maps, may_map, map_read, may_block, block_read, claim_read, code_read, upper_read, fits_at, may_instr, instr_read, out_read, lower_read, read_at}
+use Rattle.mk_bundle.specs.Reading.{State, version_line, field_line_of, field_read, headed, order_read, secrets_read, publics_read, may_map, map_read, may_block, block_read, claim_read, code_read, upper_read, fits_at, may_instr, instr_read, out_read, lower_read, read_at}
 use Rattle.mk_bundle.proofs.Appended.{out_lines-none}
 use Rattle.mk_lines.proofs.Steps.{bind_some, same_some, chosen, passed, not_passed, after_found, behind_found, is_word}
 use Rattle.mk_lines.proofs.Numbers.{number_of_found}
@@ -38,13 +40,15 @@ use Rattle.mk_lines.proofs.Variants.{op_line-words, op_found, instr_line-words, 
 abbrev pub at : Stage → Listing → Claimed → State
 at stage code cert = record { stage = stage; code = code; cert = cert }
 
--- what was read when this line is next
+-- the text before a line between the head and the code: the head, and the maps, blocks and claims so far
 abbrev pub upper_text : Listing → Claimed → List ℕ
 upper_text code cert = head_lines code ++ flat_map map_line code.maps ++ flat_map op_line cert.blocks ++ flat_map claim_line cert.claims
 
+-- the text before a line of the code: what stands before the code, its instructions and outputs so far
 abbrev pub lower_text : Listing → Claimed → List ℕ
 lower_text code cert = upper_text code cert ++ line (codes "code") ++ flat_map instr_line code.instrs ++ out_lines (code.order + 1) (length code.outs / (code.order + 1)) code.outs
 
+-- the text before the line of this stage
 abbrev pub text_at : Stage → Listing → Claimed → List ℕ
 text_at Version code cert = []
 text_at Field code cert = line (codes "mask 1")
@@ -63,10 +67,12 @@ pub record IsFresh (code : Listing) (cert : Claimed) : Type 0 where
   pub blocks : cert.blocks ≡ []
   pub claims : cert.claims ≡ []
 
+-- no instruction and no output has come yet
 pub record HasNoCode (code : Listing) : Type 0 where
   pub instrs : code.instrs ≡ []
   pub outs : code.outs ≡ []
 
+-- what comes behind this stage is empty yet
 abbrev pub IsBlank : Stage → Listing → Claimed → Type 0
 IsBlank Version code cert = IsFresh code cert
 IsBlank Field code cert = IsFresh code cert
@@ -77,6 +83,7 @@ IsBlank Upper code cert = HasNoCode code
 IsBlank Lower code cert = Unit {0}
 IsBlank Ended code cert = Unit {0}
 
+-- the pair so far is within the limits, and what comes behind the stage is empty yet
 pub record Good (stage : Stage) (code : Listing) (cert : Claimed) : Type 0 where
   pub pair : IsPair code cert
   pub blank : IsBlank stage code cert
@@ -88,13 +95,16 @@ pub record Goes (stage : Stage) (code : Listing) (cert : Claimed) (l : List ℕ)
 
 -- ---- lists
 
+-- what holds of all of a list and of one thing more holds of all of them together
 pub AllByRecursion-push : {A : Type 0} (P : A → Type 0) (xs : List A) (x : A) → AllByRecursion P xs → P x → AllByRecursion P (xs ++ x ∷ [])
 AllByRecursion-push P [] x all here = (here, tt)
 AllByRecursion-push P (y ∷ xs) x all here = (all.0, AllByRecursion-push P xs x all.1 here)
 
+-- the spelling of a list with one thing more is that of the list and then that of the thing
 flat_map-push : {A : Type 0} (f : A → List ℕ) (xs : List A) (x : A) → flat_map f (xs ++ x ∷ []) ≡ flat_map f xs ++ f x
 flat_map-push f xs x = flat_map-append f xs (x ∷ []) ∙ ap (λ (r : List ℕ). flat_map f xs ++ r) (append-nil (f x))
 
+-- a list with one thing more is longer by one
 length-push : {A : Type 0} (xs : List A) (x : A) → length (xs ++ x ∷ []) ≡ length xs + 1
 length-push xs x = length-append xs (x ∷ [])
 
@@ -114,15 +124,18 @@ empty_listing code order secrets publics maps bytes none = record {
   outputs = (0, omega arith, (let e : length code.outs ≡ 0 = ap length none.outs in omega (arith, e)));
 }
 
+-- where there is no map, there are maps in bytes only
 no_maps : (field : FieldId) (maps : List AddMap) → maps ≡ [] → HasMapsOnlyInBytes field maps
 no_maps Gf2 maps none = none
 no_maps Gf256 maps none = tt
 
+-- in a field that has maps, there may be any
 some_maps : (field : FieldId) (maps : List AddMap) → has_maps field ≡ true → HasMapsOnlyInBytes field maps
 unfolding has_maps
 some_maps Gf2 maps e = absurd cc
 some_maps Gf256 maps e = tt
 
+-- where nothing has come behind the head, no code has come
 no_code : (code : Listing) (cert : Claimed) → IsFresh code cert → HasNoCode code
 no_code code cert fresh = record { instrs = fresh.instrs; outs = fresh.outs }
 
@@ -130,6 +143,7 @@ no_code code cert fresh = record { instrs = fresh.instrs; outs = fresh.outs }
 pub fresh_pair : (code : Listing) (cert : Claimed) → IsFresh code cert → (1 ≤ code.order) × (code.order ≤ 8) → code.secrets ≤ 65536 → code.publics ≤ 65536 → IsPair code cert
 fresh_pair code cert fresh order secrets publics = record {
   listing = empty_listing code order secrets publics (let e : length code.maps ≡ 0 = ap length fresh.maps in omega (arith, e)) (no_maps code.field code.maps fresh.maps) (no_code code cert fresh);
+  order = order.1;
   maps = subst (AllByRecursion MapFits) (sym fresh.maps) tt;
   blocks = subst (AllByRecursion OpFits) (sym fresh.blocks) tt;
   claims = subst (AllByRecursion OperandFits) (sym fresh.claims) tt;
@@ -143,6 +157,7 @@ refreshed code other cert fresh maps instrs outs = record { maps = maps ∙ fres
 
 -- ---- the head
 
+-- the version's line, if it is read, goes on with the text so far
 version_goes : (code : Listing) (cert : Claimed) (l : List ℕ) (next : State) → Good Version code cert → version_line (at Version code cert) l ≡ Some next → Goes Version code cert l next
 unfolding version_line
 version_goes code cert l next good e =
@@ -150,6 +165,7 @@ version_goes code cert l next good e =
     let is : l ≡ codes "mask 1" = is_word l (codes "mask 1") h.0 in
     subst (Goes Version code cert l) (same_some (at Field code cert) next h.1) (record { good = record { pair = good.pair; blank = good.blank }; more = ap line (sym is) })
 
+-- a line that names a field is the line of that field
 field_of_found : (l : List ℕ) (field : FieldId) → field_line_of l ≡ Some field → field_line field ≡ line l
 unfolding field_line_of
 field_of_found l field e = elim (chosen (bytes_eq l (codes "field gf2")) (Some Gf2) (cond (bytes_eq l (codes "field gf256")) (Some Gf256) None) (Some field) e) [
@@ -158,6 +174,7 @@ field_of_found l field e = elim (chosen (bytes_eq l (codes "field gf2")) (Some G
       ap field_line (sym (same_some Gf256 field g.1)) ∙ ap line (sym (is_word l (codes "field gf256") g.0)))
 ]
 
+-- the field's line, if it is read, goes on with the text so far
 field_goes : (code : Listing) (cert : Claimed) (l : List ℕ) (next : State) → Good Field code cert → field_read (at Field code cert) l ≡ Some next → Goes Field code cert l next
 unfolding field_read
 field_goes code cert l next good e =
@@ -170,6 +187,7 @@ field_goes code cert l next good e =
       more = ap (λ (r : List ℕ). line (codes "mask 1") ++ r) (field_of_found l h.0 h.1);
     })
 
+-- a line from which a number is read is the name and that number, which is within the limit
 headed_found : (name : List ℕ) (most : ℕ) (l : List ℕ) (n : ℕ) → headed name most l ≡ Some n → (l ≡ name ++ decimal n) × (n ≤ most)
 unfolding headed
 headed_found name most l n e =
@@ -179,6 +197,7 @@ headed_found name most l n e =
     let is : b.0 ≡ n = same_some b.0 n h.1 in
     (after_found name l a.0 a.1 ∙ ap (λ (r : List ℕ). name ++ r) ((number_of_found a.0 b.0 b.1).0 ∙ ap decimal is), omega (arith, is, ltb-false most b.0 h.0))
 
+-- the order's line, if it is read, goes on with the text so far
 order_goes : (code : Listing) (cert : Claimed) (l : List ℕ) (next : State) → Good Order code cert → order_read (at Order code cert) l ≡ Some next → Goes Order code cert l next
 unfolding order_read
 order_goes code cert l next good e =
@@ -194,6 +213,7 @@ order_goes code cert l next good e =
       more = ap (λ (r : List ℕ). line (codes "mask 1") ++ field_line code.field ++ line r) (sym found.0);
     })
 
+-- the same for the line of the number of secrets
 secrets_goes : (code : Listing) (cert : Claimed) (l : List ℕ) (next : State) → Good Secrets code cert → secrets_read (at Secrets code cert) l ≡ Some next → Goes Secrets code cert l next
 unfolding secrets_read
 secrets_goes code cert l next good e =
@@ -211,6 +231,7 @@ secrets_goes code cert l next good e =
 head_alone : (code : Listing) (cert : Claimed) → IsFresh code cert → upper_text code cert ≡ head_lines code
 head_alone code cert fresh = rw (fresh.maps, fresh.blocks, fresh.claims) (append-nil (head_lines code ++ [] ++ []) ∙ append-nil (head_lines code ++ []) ∙ append-nil (head_lines code))
 
+-- the same for the line of the number of publics
 publics_goes : (code : Listing) (cert : Claimed) (l : List ℕ) (next : State) → Good Publics code cert → publics_read (at Publics code cert) l ≡ Some next → Goes Publics code cert l next
 unfolding publics_read
 publics_goes code cert l next good e =
@@ -226,12 +247,15 @@ publics_goes code cert l next good e =
 
 -- ---- maps, blocks and claims
 
+-- a list shorter than a limit is within it with one thing more
 few_of : {A : Type 0} (xs : List A) (x : A) (most : ℕ) → nat_lt (length xs) most ≡ true → length (xs ++ x ∷ []) ≤ most
 few_of xs x most e = omega (arith, length-push xs x, ltb-true (length xs) most e)
 
+-- a list shorter than 1 is empty
 none_of : {A : Type 0} (xs : List A) → nat_lt (length xs) 1 ≡ true → xs ≡ []
 none_of xs e = nil_from_length xs (omega (arith, ltb-true (length xs) 1 e))
 
+-- a map's line, if it is read, goes on with the text so far
 map_goes : (code : Listing) (cert : Claimed) (l words : List ℕ) (next : State) → Good Upper code cert → l ≡ codes "map " ++ words → map_read (at Upper code cert) words ≡ Some next → Goes Upper code cert l next
 unfolding map_read may_map
 map_goes code cert l words next good here e =
@@ -250,6 +274,7 @@ map_goes code cert l words next good here e =
       good = record {
         pair = record {
           listing = empty_listing made listing.order listing.secrets listing.publics (few_of code.maps map 32768 p.1) (some_maps code.field (code.maps ++ map ∷ []) r.0) none;
+          order = good.pair.order;
           maps = AllByRecursion-push MapFits code.maps map good.pair.maps found.1;
           blocks = good.pair.blocks;
           claims = good.pair.claims;
@@ -266,6 +291,7 @@ map_goes code cert l words next good here e =
         ≡ (head ++ flat_map map_line maps ++ flat_map op_line cert.blocks ++ flat_map claim_line cert.claims) ++ line l
     last_map head maps map no_blocks no_claims spelled = simp (no_blocks, no_claims, append-nil, flat_map-push map_line maps map, spelled, append_assoc)
 
+-- the same for a block's line
 block_goes : (code : Listing) (cert : Claimed) (l words : List ℕ) (next : State) → Good Upper code cert → l ≡ codes "block " ++ words → block_read (at Upper code cert) words ≡ Some next → Goes Upper code cert l next
 unfolding block_read may_block
 block_goes code cert l words next good here e =
@@ -280,6 +306,7 @@ block_goes code cert l words next good here e =
       good = record {
         pair = record {
           listing = good.pair.listing;
+          order = good.pair.order;
           maps = good.pair.maps;
           blocks = AllByRecursion-push OpFits cert.blocks op good.pair.blocks found.1;
           claims = good.pair.claims;
@@ -295,6 +322,7 @@ block_goes code cert l words next good here e =
         → head ++ flat_map op_line (blocks ++ op ∷ []) ++ flat_map claim_line cert.claims ≡ (head ++ flat_map op_line blocks ++ flat_map claim_line cert.claims) ++ line l
     last_block head blocks op no_claims spelled = simp (no_claims, append-nil, flat_map-push op_line blocks op, spelled, append_assoc)
 
+-- the same for a claim's line
 claim_goes : (code : Listing) (cert : Claimed) (l words : List ℕ) (next : State) → Good Upper code cert → l ≡ codes "claim " ++ words → claim_read (at Upper code cert) words ≡ Some next → Goes Upper code cert l next
 unfolding claim_read
 claim_goes code cert l words next good here e =
@@ -308,6 +336,7 @@ claim_goes code cert l words next good here e =
       good = record {
         pair = record {
           listing = good.pair.listing;
+          order = good.pair.order;
           maps = good.pair.maps;
           blocks = good.pair.blocks;
           claims = AllByRecursion-push OperandFits cert.claims value good.pair.claims found.1;
@@ -327,6 +356,7 @@ claim_goes code cert l words next good here e =
 no_outs : (shares : ℕ) (outs : List ℕ) → outs ≡ [] → out_lines shares (length outs / shares) outs ≡ []
 no_outs shares outs none = out_lines-none shares (length outs / shares) outs (ap (λ (xs : List ℕ). length xs / shares) none ∙ zero-div shares)
 
+-- the same for the line that the code follows
 code_goes : (code : Listing) (cert : Claimed) (l : List ℕ) (next : State) → Good Upper code cert → code_read (at Upper code cert) l ≡ Some next → Goes Upper code cert l next
 unfolding code_read
 code_goes code cert l next good e =
@@ -340,6 +370,7 @@ code_goes code cert l next good e =
     no_more : (upper : List ℕ) (instrs : List Instr) (outs : List ℕ) → instrs ≡ [] → outs ≡ [] → l ≡ codes "code" → upper ++ line (codes "code") ++ flat_map instr_line instrs ++ outs ≡ upper ++ line l
     no_more upper instrs outs none_i none_o is = rw (none_i, none_o, is) (append-nil (upper ++ line (codes "code") ++ []) ∙ append-nil (upper ++ line (codes "code")))
 
+-- any line between the head and the code, if it is read, goes on with the text so far
 upper_goes : (code : Listing) (cert : Claimed) (l : List ℕ) (next : State) → Good Upper code cert → upper_read (at Upper code cert) l ≡ Some next → Goes Upper code cert l next
 unfolding upper_read
 upper_goes code cert l next good e = elim (behind_found (codes "map ") l _ _ next e) [
@@ -355,6 +386,7 @@ upper_goes code cert l next good e = elim (behind_found (codes "map ") l _ _ nex
 
 -- ---- instructions and outputs
 
+-- an instruction that passes the test fits behind so many entries
 fits_found : (field : FieldId) (maps len : ℕ) (i : Instr) → fits_at field maps len i ≡ true → FitsAt field maps len i
 unfolding fits_at
 fits_found field maps len instr.Rnd e = tt
@@ -365,6 +397,7 @@ fits_found field maps len (instr.Mul left right) e = let h = and_parts (nat_lt l
 fits_found field maps len (instr.Sq from) e = ltb-true from len e
 fits_found field maps len (instr.Map map from) e = let h = and_parts (nat_lt map maps) (nat_lt from len) e in (ltb-true map maps h.0, ltb-true from len h.1)
 
+-- an instruction's line, if it is read, goes on with the text so far
 instr_goes : (code : Listing) (cert : Claimed) (l : List ℕ) (next : State) → Good Lower code cert → instr_read (at Lower code cert) l ≡ Some next → Goes Lower code cert l next
 unfolding instr_read may_instr
 instr_goes code cert l next good e =
@@ -391,6 +424,7 @@ instr_goes code cert l next good e =
             outs = λ k d below. (let e : length code.outs ≡ 0 = ap length none in absurd (omega (arith, e, below)));
             outputs = listing.outputs;
           };
+          order = good.pair.order;
           maps = good.pair.maps;
           blocks = good.pair.blocks;
           claims = good.pair.claims;
@@ -424,11 +458,13 @@ out_lines-push shares (suc outputs) outs places all one =
     ∙ ap (λ (p : List ℕ). out_line (take shares outs) ++ p) rest
     ∙ sym (append_assoc (out_line (take shares outs)) (out_lines shares outputs (drop shares outs)) (out_line places))
 
+-- where all places are below a length, each of them is
 all_below : (len : ℕ) (places : List ℕ) → AllByRecursion (λ p. p < len) places → (k d : ℕ) → k < length places → slice_index_or places k d < len
 all_below len [] all k d below = absurd (omega (arith, below))
 all_below len (p ∷ ps) all zero d below = all.0
 all_below len (p ∷ ps) all (suc k) d below = all_below len ps all.1 k d (omega (arith, below))
 
+-- an output's line, if it is read, goes on with the text so far
 out_goes : (code : Listing) (cert : Claimed) (l words : List ℕ) (next : State) → Good Lower code cert → l ≡ codes "out" ++ words → out_read (at Lower code cert) words ≡ Some next → Goes Lower code cert l next
 unfolding out_read
 out_goes code cert l words next good here e =
@@ -461,6 +497,7 @@ out_goes code cert l words next good here e =
             outs = All-append (λ p. p < trace_len code) code.outs places listing.outs (all_below (trace_len code) places found.2);
             outputs = (k + 1, few, longer);
           };
+          order = good.pair.order;
           maps = good.pair.maps;
           blocks = good.pair.blocks;
           claims = good.pair.claims;
@@ -480,9 +517,11 @@ out_goes code cert l words next good here e =
     last_out head shares m n k outs places more same all one spelled =
         rw (more, same) (ap (λ (r : List ℕ). head ++ r) (out_lines-push shares k outs places all one ∙ ap (λ (r : List ℕ). out_lines shares k outs ++ r) spelled) ∙ sym (append_assoc head (out_lines shares k outs) (line l)))
 
+-- the last line, if it is read, goes on with the text so far
 end_goes : (code : Listing) (cert : Claimed) (l : List ℕ) (next : State) → Good Lower code cert → l ≡ codes "end" → at Ended code cert ≡ next → Goes Lower code cert l next
 end_goes code cert l next good is made = subst (Goes Lower code cert l) made (record { good = record { pair = good.pair; blank = tt }; more = ap (λ (w : List ℕ). lower_text code cert ++ line w) (sym is) })
 
+-- any line of the code, if it is read, goes on with the text so far
 lower_goes : (code : Listing) (cert : Claimed) (l : List ℕ) (next : State) → Good Lower code cert → lower_read (at Lower code cert) l ≡ Some next → Goes Lower code cert l next
 unfolding lower_read
 lower_goes code cert l next good e = elim (behind_found (codes "out") l _ _ next e) [
@@ -495,6 +534,7 @@ lower_goes code cert l next good e = elim (behind_found (codes "out") l _ _ next
 
 -- ---- any line
 
+-- a line of any stage, if it is read, goes on with the text so far
 pub line_goes : (stage : Stage) (code : Listing) (cert : Claimed) (l : List ℕ) (next : State) → Good stage code cert → read_at stage (at stage code cert) l ≡ Some next → Goes stage code cert l next
 unfolding read_at
 line_goes Version code cert l next good e = version_goes code cert l next good e

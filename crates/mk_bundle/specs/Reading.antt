@@ -1,11 +1,13 @@
--- Reading a bundle text line by line, as lists.
-use Rattle.std.specs.Prelude.{◌≡◌, ℕ, ◌+◌, ◌*◌, ◌≤◌, Bool, true, false, ◌&&◌, List, [], ◌∷◌, ◌++◌, length, Option, Some, None, Result, Ok, Err, nat_lt, bytes_eq, codes, if◌then◌else◌}
+-- Reading a bundle text line by line, as lists: for the contracts inside the crate, none of the public ones cites it.
+use Rattle.std.specs.Prelude.{◌≡◌, ℕ, ◌+◌, ◌*◌, ◌≤◌, Bool, true, ◌&&◌, List, [], ◌∷◌, ◌++◌, length, Option, Some, None, Result, Ok, Err, nat_lt, bytes_eq, codes, if◌then◌else◌}
 use Rattle.mk_field.specs.declared.field.FieldId.{FieldId}
 use Rattle.mk_field.specs.declared.field.FieldId.TheVariants.{Gf2, Gf256}
-use Rattle.mk_field.specs.Field.{size}
+use Rattle.mk_field.specs.Field.{size, has_maps}
 use Rattle.mk_code.specs.declared.instr.Instr.{Instr}
 use Rattle.mk_code.specs.declared.instr.Instr.TheVariants.{Rnd, Const, Copy, Add, Mul, Sq, Map}
 use Rattle.mk_code.specs.Listing.{Listing, trace_len}
+use Rattle.mk_code.specs.declared.TheConstants.{MOST_INPUTS, MOST_MAPS, MOST_INSTRS}
+use Rattle.mk_rules.specs.declared.TheConstants.{TEXT_TOP_ORDER, MOST_BLOCKS, MOST_CLAIMS}
 use Rattle.mk_rules.specs.Claimed.{Claimed}
 use Rattle.mk_bundle.specs.declared.draft.Draft.{Draft}
 use Rattle.mk_bundle.specs.declared.draft.Stage.{Stage}
@@ -21,6 +23,7 @@ pub record State : Type 0 where
   pub code : Listing
   pub cert : Claimed
 
+-- where reading starts: at the first line, and every list is empty
 abbrev pub start : State
 start = record {
   stage = Version;
@@ -42,14 +45,17 @@ Steps (Ok done) new read = read ≡ Some new
 Steps (Err refusals.Form) new read = read ≡ None
 Steps (Err refusals.Memory) new read = Unit {0}
 
+-- the line of the form's version
 unfoldable pub version_line : State → List ℕ → Option State
 version_line st line = if bytes_eq line (codes "mask 1") then Some (record st { stage = Field }) else None
 
+-- the field that the line of the field names
 unfoldable pub field_line_of : List ℕ → Option FieldId
 field_line_of line =
     if bytes_eq line (codes "field gf2") then Some Gf2 else (
     if bytes_eq line (codes "field gf256") then Some Gf256 else None)
 
+-- the line of the field
 unfoldable pub field_read : State → List ℕ → Option State
 field_read st line = do
   field ← field_line_of line
@@ -62,30 +68,29 @@ headed name most line = do
   n ← number_of rest
   if nat_lt most n then None else Some n
 
+-- the line of the order, which is 1 to 8
 unfoldable pub order_read : State → List ℕ → Option State
 order_read st line = do
-  n ← headed (codes "order ") 8 line
+  n ← headed (codes "order ") TEXT_TOP_ORDER line
   if nat_lt n 1 then None else Some (record st { stage = Secrets; code = record st.code { order = n } })
 
+-- the line of the number of secrets
 unfoldable pub secrets_read : State → List ℕ → Option State
 secrets_read st line = do
-  n ← headed (codes "secrets ") 65536 line
+  n ← headed (codes "secrets ") MOST_INPUTS line
   Some (record st { stage = Publics; code = record st.code { secrets = n } })
 
+-- the line of the number of publics
 unfoldable pub publics_read : State → List ℕ → Option State
 publics_read st line = do
-  n ← headed (codes "publics ") 65536 line
+  n ← headed (codes "publics ") MOST_INPUTS line
   Some (record st { stage = Upper; code = record st.code { publics = n } })
-
--- there are maps on bytes only
-unfoldable pub has_maps : FieldId → Bool
-has_maps Gf2 = false
-has_maps Gf256 = true
 
 -- a map may stand here: before blocks and claims
 unfoldable pub may_map : State → Bool
-may_map st = has_maps st.code.field && nat_lt (length st.cert.blocks) 1 && nat_lt (length st.cert.claims) 1 && nat_lt (length st.code.maps) 32768
+may_map st = has_maps st.code.field && nat_lt (length st.cert.blocks) 1 && nat_lt (length st.cert.claims) 1 && nat_lt (length st.code.maps) MOST_MAPS
 
+-- one map more, by what stands behind `map `
 unfoldable pub map_read : State → List ℕ → Option State
 map_read st words = do
   map ← map_of words
@@ -93,21 +98,25 @@ map_read st words = do
 
 -- a block may stand here: before claims
 unfoldable pub may_block : State → Bool
-may_block st = nat_lt (length st.cert.claims) 1 && nat_lt (length st.cert.blocks) 131072
+may_block st = nat_lt (length st.cert.claims) 1 && nat_lt (length st.cert.blocks) MOST_BLOCKS
 
+-- one block more, by what stands behind `block `
 unfoldable pub block_read : State → List ℕ → Option State
 block_read st words = do
   op ← op_of words
   if may_block st then Some (record st { cert = record st.cert { blocks = st.cert.blocks ++ op ∷ [] } }) else None
 
+-- one claim more, by what stands behind `claim `
 unfoldable pub claim_read : State → List ℕ → Option State
 claim_read st words = do
   value ← operand_of words
-  if nat_lt (length st.cert.claims) 65536 then Some (record st { cert = record st.cert { claims = st.cert.claims ++ value ∷ [] } }) else None
+  if nat_lt (length st.cert.claims) MOST_CLAIMS then Some (record st { cert = record st.cert { claims = st.cert.claims ++ value ∷ [] } }) else None
 
+-- the line that ends the certificate: the code follows
 unfoldable pub code_read : State → List ℕ → Option State
 code_read st line = if bytes_eq line (codes "code") then Some (record st { stage = Lower }) else None
 
+-- a line between the head and the code: a map, a block, a claim or the code's beginning
 unfoldable pub upper_read : State → List ℕ → Option State
 upper_read st line =
     behind (after (codes "map ") line) (map_read st) (
@@ -126,19 +135,22 @@ fits_at field maps len (Map map from) = nat_lt map maps && nat_lt from len
 
 -- an instruction may stand here: before outputs
 unfoldable pub may_instr : State → Instr → Bool
-may_instr st i = nat_lt (length st.code.outs) 1 && nat_lt (length st.code.instrs) 8388608 && fits_at st.code.field (length st.code.maps) (trace_len st.code) i
+may_instr st i = nat_lt (length st.code.outs) 1 && nat_lt (length st.code.instrs) MOST_INSTRS && fits_at st.code.field (length st.code.maps) (trace_len st.code) i
 
+-- one instruction more
 unfoldable pub instr_read : State → List ℕ → Option State
 instr_read st line = do
   i ← instr_of line
   if may_instr st i then Some (record st { code = record st.code { instrs = st.code.instrs ++ i ∷ [] } }) else None
 
+-- the places of one output more, by what stands behind `out`
 unfoldable pub out_read : State → List ℕ → Option State
 out_read st words =
-    if nat_lt (length st.code.outs) (65536 * (st.code.order + 1))
+    if nat_lt (length st.code.outs) (MOST_INPUTS * (st.code.order + 1))
     then (places_of (st.code.order + 1) (trace_len st.code) words >>= λ places. Some (record st { code = record st.code { outs = st.code.outs ++ places } }))
     else None
 
+-- a line of the code: an output, the end or an instruction
 unfoldable pub lower_read : State → List ℕ → Option State
 lower_read st line =
     behind (after (codes "out") line) (out_read st) (
@@ -155,6 +167,7 @@ read_at Upper st line = upper_read st line
 read_at Lower st line = lower_read st line
 read_at Ended st line = None
 
+-- one line more, by the stage
 abbrev pub line_read : State → List ℕ → Option State
 line_read st line = read_at st.stage st line
 
@@ -165,10 +178,10 @@ lines_read st (line ∷ lines) = line_read st line >>= λ next. lines_read next 
 
 -- bounds that a count of entries needs
 pub record HasBounds (code : Listing) : Type 0 where
-  pub order : code.order ≤ 8
-  pub secrets : code.secrets ≤ 65536
-  pub publics : code.publics ≤ 65536
-  pub few : length code.instrs ≤ 8388608
+  pub order : code.order ≤ TEXT_TOP_ORDER
+  pub secrets : code.secrets ≤ MOST_INPUTS
+  pub publics : code.publics ≤ MOST_INPUTS
+  pub few : length code.instrs ≤ MOST_INSTRS
 
 -- what a function that appends places returned is what reading gives, unless memory ran out
 abbrev pub Appends : Result (Unit {0}) LineRefusal → List ℕ → List ℕ → Option (List ℕ) → Type 0

@@ -35,6 +35,7 @@ sum_text =
     ++ line (codes "out 4 5")
     ++ line (codes "end")
 
+-- the text of the first pair is these lines
 pub text-sum : text sum_code sum_cert ≡ sum_text
 unfolding digits out_lines
 text-sum = refl
@@ -107,6 +108,7 @@ kinds_text =
     ++ line (codes "out 10 9 8")
     ++ line (codes "end")
 
+-- the text of the second pair is those lines
 pub text-kinds : text kinds_code kinds_cert ≡ kinds_text
 unfolding digits out_lines
 text-kinds = refl

@@ -3,20 +3,17 @@
 ghost use Rattle.std.specs.Prelude.{◌≡◌, ◌≤◌, ◌+◌, ◌++◌, length, Some, IfSome, IsTrue, ◌↔◌};
 ghost use Rattle.mk_bundle.specs.declared.draft.Stage.TheVariants.{Ended};
 ghost use Rattle.mk_code.specs.Listing.{IsListing, trace_len};
-ghost use Rattle.mk_bundle.specs.Pairs.{IsPair};
+ghost use Rattle.mk_rules.specs.Pairs.{IsPair};
 ghost use Rattle.mk_field.specs.Field.{size};
 ghost use Rattle.mk_lines.specs.Parsing.{places_of};
-ghost use Rattle.mk_bundle.specs.Reading.{Appends, start, state_of, Steps, version_line, field_line_of, field_read, headed, order_read, secrets_read, publics_read, has_maps, may_map, map_read, may_block, block_read, claim_read, code_read, upper_read, fits_at, may_instr, instr_read, out_read, lower_read, line_read, HasBounds};
+ghost use Rattle.mk_bundle.specs.Reading.{Appends, start, state_of, Steps, version_line, field_line_of, field_read, headed, order_read, secrets_read, publics_read, may_map, map_read, may_block, block_read, claim_read, code_read, upper_read, fits_at, may_instr, instr_read, out_read, lower_read, line_read, HasBounds};
 
 use mk_base::{Items, Memory};
 use mk_code::{Code, Instr, InstrList, MOST_INPUTS, MOST_INSTRS, MOST_MAPS, MapList, PositionList};
 use mk_field::FieldId;
 use mk_lines::{after, instr_of, map_of, number_at, number_of, op_of, operand_of};
-use mk_rules::{Bundle, Cert};
+use mk_rules::{Bundle, Cert, MOST_BLOCKS, TEXT_TOP_ORDER};
 use std::alloc::Global;
-
-/// The most blocks of a certificate in a text.
-const MOST_BLOCKS: usize = 131_072;
 
 /// Which lines stand next.
 #[derive(Clone, Copy, Debug, PartialEq, Eq)]
@@ -146,7 +143,7 @@ fn headed(name: &[u8], most: u32, line: &[u8]) -> Option<u32>
 fn read_order(draft: &mut Draft, line: &[u8]) -> Result<(), LineRefusal>
     ensures { Steps result (state_of draft.new) (order_read (state_of draft.old) line.now) }
 {
-    let number = headed(b"order ", 8, line).ok_or(LineRefusal::Form)?;
+    let number = headed(b"order ", u32::from(TEXT_TOP_ORDER), line).ok_or(LineRefusal::Form)?;
     if number < 1 {
         return Err(LineRefusal::Form);
     }
@@ -177,23 +174,12 @@ fn read_publics(draft: &mut Draft, line: &[u8]) -> Result<(), LineRefusal>
     Ok(())
 }
 
-/// Whether a code in this field may have maps.
-#[tactic(auto, unfolding(crate::specs::Reading::has_maps))]
-fn has_maps(field: FieldId) -> bool
-    ensures { result ≡ has_maps field }
-{
-    match field {
-        FieldId::Gf2 => false,
-        FieldId::Gf256 => true,
-    }
-}
-
 /// Whether a map may stand here: before blocks and claims.
 #[tactic(auto, unfolding(crate::specs::Reading::may_map))]
 fn may_map(draft: &Draft) -> bool
     ensures { result ≡ may_map (state_of draft.now) }
 {
-    has_maps(draft.field)
+    draft.field.has_maps()
         && draft.cert.blocks().len() < 1
         && draft.cert.claims().len() < 1
         && draft.maps.len() < MOST_MAPS as usize
@@ -217,7 +203,7 @@ fn read_map(draft: &mut Draft, words: &[u8]) -> Result<(), LineRefusal>
 fn may_block(draft: &Draft) -> bool
     ensures { result ≡ may_block (state_of draft.now) }
 {
-    draft.cert.claims().len() < 1 && draft.cert.blocks().len() < MOST_BLOCKS
+    draft.cert.claims().len() < 1 && draft.cert.blocks().len() < MOST_BLOCKS as usize
 }
 
 /// The line of a block, behind its first word.

@@ -25,5 +25,8 @@ mod draft;
 mod read;
 mod text;
 
-pub use read::{BundleRefusal, MOST_BYTES, read_bundle, texts_differ};
+/// The most bytes of a text that is read.
+pub const MOST_BYTES: u32 = 268_435_456;
+
+pub use read::{BundleRefusal, read_bundle, texts_differ};
 pub use text::to_text;

@@ -1,17 +1,14 @@
 ghost use Rattle.std.specs.Prelude.{◌≡◌, ◌≤◌, ℕ, Err, length, IfOk};
+ghost use Rattle.mk_bundle.specs.declared.TheConstants.{MOST_BYTES};
 ghost use Rattle.mk_bundle.specs.declared.read.BundleRefusal.TheVariants.{Form};
-ghost use Rattle.mk_bundle.specs.Text.{text as text_of};
 ghost use Rattle.mk_lines.specs.Lines.{NamesFirst};
-ghost use Rattle.mk_bundle.specs.Pairs.{IsPair, IsBundleText, TextsDiffer};
+ghost use Rattle.mk_bundle.specs.Pairs.{IsTextOf, IsBundleText, TextsDiffer};
 
 use crate::draft::{LineRefusal, bundle_of, empty_draft, is_ended, read_line};
 use mk_lines::cut;
 use mk_rules::Bundle;
 use std::alloc::Global;
 use thiserror::Error;
-
-/// The most bytes of a text that is read.
-pub const MOST_BYTES: usize = 268_435_456;
 
 /// Why a text is not read.
 #[derive(Clone, Copy, Debug, PartialEq, Eq, Error)]
@@ -27,9 +24,9 @@ pub enum BundleRefusal {
 
 /// The bundle whose text this is.
 pub fn read_bundle(alloc: Global, text: &[u8]) -> Result<Bundle, BundleRefusal>
-    requires { length text.now ≤ 268435456 }
+    requires { length text.now ≤ MOST_BYTES }
     // What is read has this text.
-    ensures ok { IfOk result (λ b. IsPair b.code b.cert × (text.now ≡ text_of b.code b.cert)) }
+    ensures ok { IfOk result (λ b. IsTextOf text.now b.code b.cert) }
 
     // What is refused for its form is the text of no bundle.
     ensures only { (line : ℕ) → result ≡ Err (Form line) → IsBundleText text.now → ⊥ }

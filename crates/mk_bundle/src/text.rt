@@ -1,11 +1,13 @@
 ghost use Rattle.std.specs.Prelude.{◌≡◌, ◌≤◌, ◌<◌, ◌/◌, ◌++◌, length, IfOk, OnOk, string_bytes, flat_map};
 ghost use Rattle.std.specs.List.{AllByRecursion};
 ghost use Rattle.mk_code.specs.Listing.{IsListing};
-ghost use Rattle.mk_lines.specs.Words.{OperandFits};
-ghost use Rattle.mk_bundle.specs.Pairs.{IsPair};
-ghost use Rattle.mk_lines.specs.CertLines.{op_line, claim_line, OpFits};
-ghost use Rattle.mk_lines.specs.CodeLines.{map_line, instr_line, out_lines, MapFits};
-ghost use Rattle.mk_bundle.specs.Text.{field_line, number_line, head_lines, text};
+ghost use Rattle.mk_ssa.specs.Widths.{OperandFits, OpFits};
+ghost use Rattle.mk_rules.specs.declared.TheConstants.{MOST_BLOCKS, MOST_CLAIMS};
+ghost use Rattle.mk_bundle.specs.Pairs.{IsTextOf};
+ghost use Rattle.mk_lines.specs.CertLines.{op_line, claim_line};
+ghost use Rattle.mk_lines.specs.CodeLines.{map_line, instr_line, out_lines};
+ghost use Rattle.mk_field.specs.Maps.{MapFits};
+ghost use Rattle.mk_bundle.specs.Text.{field_line, number_line, head_lines};
 
 use mk_base::{Bytes, Items, Memory};
 use mk_code::{Code, Instr};
@@ -18,12 +20,9 @@ use std::alloc::{AllocError, Global};
 /// The bundle text of a code and its certificate. The limits are those of the text that a certificate
 /// doesn't keep by itself.
 pub fn to_text(alloc: Global, code: &Code, cert: &Cert) -> Result<Bytes, Memory>
-    requires blocks { length cert.now.blocks ≤ 131072 }
-    requires claims { length cert.now.claims ≤ 65536 }
-    ensures text { IfOk result (λ bytes. bytes ≡ text code.now cert.now) }
-
-    // So it is read again as these.
-    ensures pair { IfOk result (λ _. IsPair code.now cert.now) }
+    requires blocks { length cert.now.blocks ≤ MOST_BLOCKS }
+    requires claims { length cert.now.claims ≤ MOST_CLAIMS }
+    ensures { IfOk result (λ bytes. IsTextOf bytes code.now cert.now) }
 {
     let mut text = String::new(alloc);
     push_head(&mut text, code)?;

@@ -15,7 +15,7 @@ use Rattle.mk_gadget.specs.Emitted.{Emitted}
 use Rattle.mk_gadget.specs.Gadget.{Gadget, placement, moved, placed, placed_outs}
 use Rattle.mk_gadget.specs.Product.{product_gadget}
 use Rattle.mk_gadget.specs.Refresh.{refresh_gadget}
-use Rattle.mk_gadget.proofs.AddTemplate.{placement-own, AllBelow-range}
+use Rattle.mk_gadget.proofs.Ranges.{placement-own, AllBelow-range}
 use Rattle.mk_gadget.proofs.Pairs.{twice-pairs}
 use Rattle.mk_gadget.proofs.RefreshRun.{length-refresh}
 use Rattle.mk_gadget.proofs.ProductRows.{length-product}

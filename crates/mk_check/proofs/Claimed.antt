@@ -5,10 +5,10 @@ use Rattle.std.proofs.Math.Nat.{mul-le-mul_right}
 use Rattle.mk_code.specs.Listing.{Listing, IsListing}
 use Rattle.mk_ssa.specs.declared.Op.{Op}
 use Rattle.mk_ssa.specs.declared.Operand.{Operand}
-use Rattle.mk_gadget.specs.Gadget.{Gadget}
-use Rattle.mk_rules.specs.Tiles.{banks_of, value_number}
+use Rattle.mk_rules.specs.Shape.{shape_of}
+use Rattle.mk_rules.specs.Tiles.{value_number}
 use Rattle.mk_rules.specs.Wired.{IsSharedThere}
-use Rattle.mk_rules.specs.Places.{output_places, IsClaimed}
+use Rattle.mk_rules.specs.Faults.{output_places, IsClaimed}
 
 -- an output that is there is whole
 pub output-whole : (code : Listing) (k n len : ℕ) → IsListing code → n ≡ code.order + 1 → len ≡ length code.outs → k * (code.order + 1) < length code.outs
@@ -22,11 +22,11 @@ output-whole code k n len fits shares same there =
     ] in
     subst (λ (m : ℕ). k * m + m ≤ len) (sym shares) (omega (arith, same, whole))
 
-module _ (code : Listing) (product refresh : Gadget) (blocks : List Op) (claims : List Operand) (k : ℕ) where
+module _ (code : Listing) (banks : List (List ℕ)) (blocks : List Op) (claims : List Operand) (k : ℕ) where
   -- the claim is of a value that is there, whose bank is the output
-  abbrev pub IsOutput : Operand → Type 0
-  IsOutput v = IsSharedThere code blocks v × (slice_index_or (banks_of code product refresh blocks) (value_number code v) [] ≡ output_places code k)
+  abbrev IsOutput : Operand → Type 0
+  IsOutput v = IsSharedThere (shape_of code) blocks v × (slice_index_or banks (value_number (shape_of code) v) [] ≡ output_places code k)
 
   -- without a claim there is none
-  pub IsClaimed-none : slice_get claims k ≡ None → IsClaimed code product refresh blocks claims k → ⊥
+  pub IsClaimed-none : slice_get claims k ≡ None → IsClaimed code banks blocks claims k → ⊥
   IsClaimed-none none claimed = subst (λ (o : Option Operand). IsSomeAnd o IsOutput) none claimed.claim

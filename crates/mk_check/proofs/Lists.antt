@@ -3,7 +3,7 @@ use Rattle.std.proofs.Common.{◌≡◌, true, false, nat_lt, refl, ℕ, zero, s
 use Rattle.std.proofs.lemmas.List.{take_more, take_more_same}
 use Rattle.std.proofs.lemmas.Option.{slice_get_past, slice_get_within, get_or_from_slice_get, slice_get_read, slice_get-get_or, same_Some, none-some}
 use Rattle.std.proofs.lemmas.Bool.{ltb-true, ltb-false}
-use Rattle.mk_rules.specs.Places.{FirstMismatch}
+use Rattle.mk_rules.specs.Faults.{FirstMismatch}
 
 -- one equal element more
 pub take-same-more : {X : Type 0} (xs ys : List X) (place : ℕ) (d y : X) → place < length xs → take place xs ≡ take place ys

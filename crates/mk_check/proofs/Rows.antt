@@ -12,6 +12,7 @@ use Rattle.mk_ssa.specs.declared.Op.{Op}
 use Rattle.mk_ssa.specs.declared.Op.TheVariants.{Const, PubAdd, PubMul, PubSq, PubMap, Lift, Add, AddPub, Scale, Sq, Map, Mul, Refresh}
 use Rattle.mk_ssa.specs.Kinds.{Strong, kind, is_public, shared_operands, public_operands}
 use Rattle.mk_gadget.specs.Template.{built_in, lift}
+use Rattle.mk_check.specs.Gadgets.{Gadgets, template_of}
 
 -- an element of rows
 pub row-at : (row : ℕ → Instr) (n k : ℕ) → k < length (map row (range_with_len 0 n)) → slice_get (map row (range_with_len 0 n)) k ≡ Some (row k)
@@ -90,3 +91,9 @@ pub weak-from : (op : Op) → ((left right : Operand) → op ≡ Mul left right 
 weak-from (Mul left right) no_product no_refresh = absurd (no_product left right refl)
 weak-from (Refresh arg) no_product no_refresh = absurd (no_refresh arg refl)
 weak-from _ no_product no_refresh = λ strong. absurd (cc)
+
+-- the gadgets of the product and of the refresh don't matter to others
+pub weak-same : (gadgets : Gadgets) (op : Op) → kind op ≢ Strong → built_in gadgets.shares op ≡ template_of gadgets op
+weak-same gadgets (Mul left right) weak = absurd (weak refl)
+weak-same gadgets (Refresh arg) weak = absurd (weak refl)
+weak-same gadgets _ weak = refl

@@ -9,16 +9,16 @@ use Rattle.std.proofs.lemmas.Map.Keys.{IsDistinct-push}
 use Rattle.std.proofs.lemmas.Map.Steps.{length-le_from_distinct_below}
 use Rattle.std.proofs.lemmas.Map.Views.{Contains-from_any}
 use Rattle.std.proofs.lemmas.Option.{slice_get_within, slice_get-get_or, same_Some}
-use Rattle.mk_code.specs.Listing.{Listing}
 use Rattle.mk_ssa.specs.declared.Op.{Op}
 use Rattle.mk_ssa.specs.declared.Op.TheVariants.{Const, Mul, Refresh}
 use Rattle.mk_ssa.specs.declared.Operand.{Operand}
 use Rattle.mk_ssa.specs.Kinds.{Kind, Public, Linear, Strong, kind, shared_operands}
+use Rattle.mk_ssa.proofs.Lists.{IsSomeAnd-value}
+use Rattle.mk_rules.specs.Shape.{Shape}
 use Rattle.mk_rules.specs.Tiles.{value_number}
 use Rattle.mk_rules.specs.Wired.{IsSharedThere, Wired}
 use Rattle.mk_rules.specs.Reaches.{Link, IsPath, Reaches, Undoubled, links}
-use Rattle.mk_rules.specs.Places.{IsDoubled, FirstDoubled}
-use Rattle.mk_rules.proofs.Places.{IsSomeAnd-value}
+use Rattle.mk_rules.specs.Faults.{IsDoubled, FirstDoubled}
 use Rattle.mk_rules.proofs.Probes.{Contains-none, Contains-cases, Contains-first}
 use Rattle.mk_rules.proofs.Views.{Contains-at}
 use Rattle.mk_rules.proofs.Doubled.{link_of, links-at, links-from, HasValue, wired-ordered, reaches-there}
@@ -211,55 +211,56 @@ option-there f n (Some x) all = all (f x) (Contains-first (f x) [] (f x) refl)
 
 -- the search for the values from the number `least` on that lead to w: those found do, and of what leads to
 -- the first k of them those are found
-pub record IsSearching (code : Listing) (blocks : List Op) (w k stamp least : ℕ) (search : Search) : Type 0 where
+pub record IsSearching (shape : Shape) (blocks : List Op) (w k stamp least : ℕ) (search : Search) : Type 0 where
   pub finding : IsFinding stamp search
   pub start : least ≤ w → Contains search.found.items w
-  pub from : (v : ℕ) → Contains search.found.items v → (least ≤ v) × ((path : List ℕ) × IsPath (code.secrets + code.publics) (links code blocks) v path w)
-  pub closed : (i u v : ℕ) → i < k → slice_get search.found.items i ≡ Some u → Leads code blocks v u → least ≤ v → Contains search.found.items v
+  pub from : (v : ℕ) → Contains search.found.items v → (least ≤ v) × ((path : List ℕ) × IsPath (shape.secrets + shape.publics) (links shape blocks) v path w)
+  pub closed : (i u v : ℕ) → i < k → slice_get search.found.items i ≡ Some u → Leads shape blocks v u → least ≤ v → Contains search.found.items v
 
-module _ (code : Listing) (blocks : List Op) where
+module _ (shape : Shape) (blocks : List Op) where
+  -- how many inputs there are
   abbrev inputs : ℕ
-  inputs = code.secrets + code.publics
+  inputs = shape.secrets + shape.publics
 
   -- only a linear block has such operands
-  linear-only : (kd : Kind) (vs : List Operand) (v : ℕ) → Contains (map (value_number code) (if_linear kd vs)) v
-      → (kd ≡ Linear) × Contains (map (value_number code) vs) v
+  linear-only : (kd : Kind) (vs : List Operand) (v : ℕ) → Contains (map (value_number shape) (if_linear kd vs)) v
+      → (kd ≡ Linear) × Contains (map (value_number shape) vs) v
   linear-only Public vs v held = absurd (Contains-none v held)
   linear-only Linear vs v held = (refl, held)
   linear-only Strong vs v held = absurd (Contains-none v held)
 
   -- what leads to a block's value
   pub leads-block : (b : ℕ) (op : Op) → slice_get blocks b ≡ Some op → (v : ℕ)
-      → Contains (map (value_number code) (linear_operands op)) v ↔ Leads code blocks v (inputs + b)
+      → Contains (map (value_number shape) (linear_operands op)) v ↔ Leads shape blocks v (inputs + b)
   leads-block b op there v =
-      let at : slice_get (links code blocks) b ≡ Some (link_of code op) = links-at code blocks b op there in (
+      let at : slice_get (links shape blocks) b ≡ Some (link_of shape op) = links-at shape blocks b op there in (
         λ held. (b, refl, subst (λ (o : Option Link). IsSomeAnd o (λ link. (link.kind ≡ Linear) × Contains link.shared v)) (sym at) (linear-only (kind op) (shared_operands op) v held)),
         λ leads.
             let same : leads.0 ≡ b = omega (arith, leads.1) in
-            let is : (kind op ≡ Linear) × Contains (map (value_number code) (shared_operands op)) v =
-            subst (λ (o : Option Link). IsSomeAnd o (λ link. (link.kind ≡ Linear) × Contains link.shared v)) (ap (slice_get (links code blocks)) same ∙ at) leads.2 in
-            subst (λ (kd : Kind). Contains (map (value_number code) (if_linear kd (shared_operands op))) v) (sym is.0) is.1,
+            let is : (kind op ≡ Linear) × Contains (map (value_number shape) (shared_operands op)) v =
+            subst (λ (o : Option Link). IsSomeAnd o (λ link. (link.kind ≡ Linear) × Contains link.shared v)) (ap (slice_get (links shape blocks)) same ∙ at) leads.2 in
+            subst (λ (kd : Kind). Contains (map (value_number shape) (if_linear kd (shared_operands op))) v) (sym is.0) is.1,
       )
 
   -- what leads to a block's value is there, and comes before the block
-  leads-before : Wired code blocks → (v b : ℕ) → IsSomeAnd (slice_get (links code blocks) b) (λ link. (link.kind ≡ Linear) × Contains link.shared v)
+  leads-before : Wired shape blocks → (v b : ℕ) → IsSomeAnd (slice_get (links shape blocks) b) (λ link. (link.kind ≡ Linear) × Contains link.shared v)
       → (v < inputs + b) × (b < length blocks)
   leads-before wired v b leads =
-      let at = links-from code blocks b (λ link. (link.kind ≡ Linear) × Contains link.shared v) leads in (
-        wired-ordered code blocks wired b v
-            (subst (λ (o : Option Link). IsSomeAnd o (λ link. Contains link.shared v)) (sym (links-at code blocks b at.0 at.1)) at.2.1),
+      let at = links-from shape blocks b (λ link. (link.kind ≡ Linear) × Contains link.shared v) leads in (
+        wired-ordered shape blocks wired b v
+            (subst (λ (o : Option Link). IsSomeAnd o (λ link. Contains link.shared v)) (sym (links-at shape blocks b at.0 at.1)) at.2.1),
         slice_get_within blocks b at.0 at.1,
       )
 
   -- so are the operands that lead to it
-  pub leading-there : Wired code blocks → (o p : Option Operand) (u n : ℕ)
-      → ((v : ℕ) → Contains (map (value_number code) (option_to_list o ++ option_to_list p)) v ↔ Leads code blocks v u) → n ≡ inputs + length blocks
-      → IfSome o (λ x. value_number code x < n) × IfSome p (λ x. value_number code x < n)
+  pub leading-there : Wired shape blocks → (o p : Option Operand) (u n : ℕ)
+      → ((v : ℕ) → Contains (map (value_number shape) (option_to_list o ++ option_to_list p)) v ↔ Leads shape blocks v u) → n ≡ inputs + length blocks
+      → IfSome o (λ x. value_number shape x < n) × IfSome p (λ x. value_number shape x < n)
   leading-there wired o p u n all count =
-      let f : Operand → ℕ = value_number code in
+      let f : Operand → ℕ = value_number shape in
       let there : (v : ℕ) → Contains (map f (option_to_list o) ++ map f (option_to_list p)) v → v < n =
       λ v held.
-      let leads : Leads code blocks v u = (all v).0 (subst (λ (xs : List ℕ). Contains xs v) (sym (map-append f (option_to_list o) (option_to_list p))) held) in
+      let leads : Leads shape blocks v u = (all v).0 (subst (λ (xs : List ℕ). Contains xs v) (sym (map-append f (option_to_list o) (option_to_list p))) held) in
       let before = leads-before wired v leads.0 leads.2 in
       omega (arith, before.0, before.1, count) in (
         option-there f n o (λ v held. there v (Contains-append_left (map f (option_to_list o)) (map f (option_to_list p)) v held)),
@@ -268,7 +269,7 @@ module _ (code : Listing) (blocks : List Op) where
 
   -- the search has found the operand alone
   pub searching-start : (w stamp least : ℕ) (old new : Search) → old.found.items ≡ [] → IsAdded stamp least (w ∷ []) old new
-      → IsSearching code blocks w 0 stamp least new
+      → IsSearching shape blocks w 0 stamp least new
   unfolding IsPath
   searching-start w stamp least old new none added = record {
     finding = added.finding;
@@ -280,10 +281,10 @@ module _ (code : Listing) (blocks : List Op) where
     closed = λ i u v low. absurd (omega (arith, low));
   }
 
-  module _ (w k stamp least : ℕ) (search : Search) (searching : IsSearching code blocks w k stamp least search) where
+  module _ (w k stamp least : ℕ) (search : Search) (searching : IsSearching shape blocks w k stamp least search) where
     -- one value found more has been gone back from
-    pub searching-next : (u : ℕ) (values : List ℕ) (new : Search) → slice_get search.found.items k ≡ Some u → ((v : ℕ) → Contains values v ↔ Leads code blocks v u)
-        → IsAdded stamp least values search new → IsSearching code blocks w (k + 1) stamp least new
+    pub searching-next : (u : ℕ) (values : List ℕ) (new : Search) → slice_get search.found.items k ≡ Some u → ((v : ℕ) → Contains values v ↔ Leads shape blocks v u)
+        → IsAdded stamp least values search new → IsSearching shape blocks w (k + 1) stamp least new
     unfolding IsPath
     searching-next u values new there all added = record {
       finding = added.finding;
@@ -291,9 +292,9 @@ module _ (code : Listing) (blocks : List Op) where
       from = λ v held. elim ((added.each v).0 held) [
         | inl known ↦ searching.from v known
         | inr value ↦
-            let leads : Leads code blocks v u = (all v).0 value.0 in
+            let leads : Leads shape blocks v u = (all v).0 value.0 in
             let path = (searching.from u (Contains-at search.found.items k u there)).1 in
-            (value.1, (leads.0 ∷ path.0, (leads.2, subst (λ (x : ℕ). IsPath inputs (links code blocks) x path.0 w) leads.1 path.1)))
+            (value.1, (leads.0 ∷ path.0, (leads.2, subst (λ (x : ℕ). IsPath inputs (links shape blocks) x path.0 w) leads.1 path.1)))
       ];
       closed = λ i x v low at leads above.
           let last : k < length search.found.items = slice_get_within search.found.items k u there in
@@ -305,13 +306,13 @@ module _ (code : Listing) (blocks : List Op) where
             | inr late ↦
                 let own : i ≡ k = omega (arith, low, late) in
                 let same : x ≡ u = same_Some x u (sym known ∙ ap (slice_get search.found.items) own ∙ there) in
-                inr ((all v).1 (subst (Leads code blocks v) same leads), above)
+                inr ((all v).1 (subst (Leads shape blocks v) same leads), above)
           ]);
     }
 
-    module _ (wired : Wired code blocks) (done : length search.found.items ≤ k) where
+    module _ (wired : Wired shape blocks) (done : length search.found.items ≤ k) where
       -- at the end each value from the least one on with a path to the operand is found
-      path-found : (v : ℕ) (path : List ℕ) → IsPath inputs (links code blocks) v path w → least ≤ v → Contains search.found.items v
+      path-found : (v : ℕ) (path : List ℕ) → IsPath inputs (links shape blocks) v path w → least ≤ v → Contains search.found.items v
       unfolding IsPath
       path-found v [] same above = subst (Contains search.found.items) (sym same) (searching.start (omega (arith, above, same)))
       path-found v (b ∷ path) leads above =
@@ -320,63 +321,63 @@ module _ (code : Listing) (blocks : List Op) where
           searching.closed place.0 (inputs + b) v (omega (arith, place.1, done)) place.2 (b, refl, leads.0) above
 
       -- so the values found are those from the least one on that reach the place
-      pub searched : (s place : ℕ) → IsSomeAnd (slice_get (links code blocks) s) (λ link. (link.kind ≡ Strong) × (slice_get link.shared place ≡ Some w))
-          → (v : ℕ) → Contains search.found.items v ↔ ((least ≤ v) × Reaches inputs (links code blocks) v s place)
+      pub searched : (s place : ℕ) → IsSomeAnd (slice_get (links shape blocks) s) (λ link. (link.kind ≡ Strong) × (slice_get link.shared place ≡ Some w))
+          → (v : ℕ) → Contains search.found.items v ↔ ((least ≤ v) × Reaches inputs (links shape blocks) v s place)
       searched s place stands v = (
         λ held. let found = searching.from v held in (found.0, record { path = found.1.0; operand = w; leads = found.1.1; strong = stands }),
         λ both.
-            let reaches : Reaches inputs (links code blocks) v s place = both.1 in
-            let at : (l : Link) × (slice_get (links code blocks) s ≡ Some l) × ((l.kind ≡ Strong) × (slice_get l.shared place ≡ Some w)) =
-            IsSomeAnd-value (slice_get (links code blocks) s) (λ link. (link.kind ≡ Strong) × (slice_get link.shared place ≡ Some w)) stands in
+            let reaches : Reaches inputs (links shape blocks) v s place = both.1 in
+            let at : (l : Link) × (slice_get (links shape blocks) s ≡ Some l) × ((l.kind ≡ Strong) × (slice_get l.shared place ≡ Some w)) =
+            IsSomeAnd-value (slice_get (links shape blocks) s) (λ link. (link.kind ≡ Strong) × (slice_get link.shared place ≡ Some w)) stands in
             let strong : (at.0.kind ≡ Strong) × (slice_get at.0.shared place ≡ Some reaches.operand) =
             subst (λ (o : Option Link). IsSomeAnd o (λ link. (link.kind ≡ Strong) × (slice_get link.shared place ≡ Some reaches.operand))) at.1 reaches.strong in
             path-found v reaches.path
-            (subst (IsPath inputs (links code blocks) v reaches.path) (same_Some reaches.operand w (sym strong.1 ∙ at.2.1)) reaches.leads)
+            (subst (IsPath inputs (links shape blocks) v reaches.path) (same_Some reaches.operand w (sym strong.1 ∙ at.2.1)) reaches.leads)
             both.0,
       )
 
   -- an operand at a place of a strong block
   abbrev pub StandsAt : ℕ → ℕ → ℕ → Type 0
-  StandsAt s place w = IsSomeAnd (slice_get (links code blocks) s) (λ link. (link.kind ≡ Strong) × (slice_get link.shared place ≡ Some w))
+  StandsAt s place w = IsSomeAnd (slice_get (links shape blocks) s) (λ link. (link.kind ≡ Strong) × (slice_get link.shared place ≡ Some w))
 
-  module _ (wired : Wired code blocks) where
+  module _ (wired : Wired shape blocks) where
     -- it comes before the block
     pub stands-before : (s place w : ℕ) → StandsAt s place w → w < inputs + s
     stands-before s place w stands =
-        let at : (l : Link) × (slice_get (links code blocks) s ≡ Some l) × ((l.kind ≡ Strong) × (slice_get l.shared place ≡ Some w)) =
-        IsSomeAnd-value (slice_get (links code blocks) s) (λ link. (link.kind ≡ Strong) × (slice_get link.shared place ≡ Some w)) stands in
-        wired-ordered code blocks wired s w
+        let at : (l : Link) × (slice_get (links shape blocks) s ≡ Some l) × ((l.kind ≡ Strong) × (slice_get l.shared place ≡ Some w)) =
+        IsSomeAnd-value (slice_get (links shape blocks) s) (λ link. (link.kind ≡ Strong) × (slice_get link.shared place ≡ Some w)) stands in
+        wired-ordered shape blocks wired s w
         (subst (λ (o : Option Link). IsSomeAnd o (λ link. Contains link.shared w)) (sym at.1) (Contains-at at.0.shared place w at.2.1))
 
-    module _ (s : ℕ) (firsts seconds : List ℕ) (common : (v : ℕ) → (Contains firsts v × Contains seconds v) ↔ IsDoubled code blocks v s) where
+    module _ (s : ℕ) (firsts seconds : List ℕ) (common : (v : ℕ) → (Contains firsts v × Contains seconds v) ↔ IsDoubled shape blocks v s) where
       -- no common value, no doubled one
-      pub none-doubled : ((v : ℕ) → Contains firsts v → Contains seconds v → ⊥) → (v : ℕ) → IsDoubled code blocks v s → ⊥
+      pub none-doubled : ((v : ℕ) → Contains firsts v → Contains seconds v → ⊥) → (v : ℕ) → IsDoubled shape blocks v s → ⊥
       none-doubled none v doubled = let both = (common v).1 doubled in none v both.0 both.1
 
       -- the first common value is the first doubled one
       pub first-doubled : (number : ℕ) (value : Operand) → Contains firsts number → Contains seconds number
           → ((v : ℕ) → Contains firsts v → Contains seconds v → number ≤ v)
-          → ((ops : List Op) (v : Operand) → IsSharedThere code ops v → value_number code v ≡ number → value ≡ v)
-          → ((j v : ℕ) → j < s → IsDoubled code blocks v j → ⊥) → FirstDoubled code blocks value s
+          → ((ops : List Op) (v : Operand) → IsSharedThere shape ops v → value_number shape v ≡ number → value ≡ v)
+          → ((j v : ℕ) → j < s → IsDoubled shape blocks v j → ⊥) → FirstDoubled shape blocks value s
       first-doubled number value at_first at_second least is before =
-          let doubled : IsDoubled code blocks number s = (common number).0 (at_first, at_second) in
-          let found : HasValue code blocks number = reaches-there code blocks wired number s 0 doubled.0 in
+          let doubled : IsDoubled shape blocks number s = (common number).0 (at_first, at_second) in
+          let found : HasValue shape blocks number = reaches-there shape blocks wired number s 0 doubled.0 in
           let same : found.value ≡ value = sym (is blocks found.value found.there found.is) in
-          let at : value_number code value ≡ number = ap (value_number code) (sym same) ∙ found.is in
+          let at : value_number shape value ≡ number = ap (value_number shape) (sym same) ∙ found.is in
           record {
-            there = subst (IsSharedThere code blocks) same found.there;
-            doubled = subst (λ (n : ℕ). IsDoubled code blocks n s) (sym at) doubled;
+            there = subst (IsSharedThere shape blocks) same found.there;
+            doubled = subst (λ (n : ℕ). IsDoubled shape blocks n s) (sym at) doubled;
             least = λ v less again. let both = (common v).1 again in omega (arith, least v both.0 both.1, less, at);
             before = λ j v less again. before j v less again;
           }
 
   -- the operands of a product stand at its places
   product-stands : (s : ℕ) (left right : Operand) → slice_get blocks s ≡ Some (Mul left right)
-      → StandsAt s 0 (value_number code left) × StandsAt s 1 (value_number code right)
+      → StandsAt s 0 (value_number shape left) × StandsAt s 1 (value_number shape right)
   product-stands s left right there =
-      let at : slice_get (links code blocks) s ≡ Some (link_of code (Mul left right)) = links-at code blocks s (Mul left right) there in (
-        subst (λ (o : Option Link). IsSomeAnd o (λ link. (link.kind ≡ Strong) × (slice_get link.shared 0 ≡ Some (value_number code left)))) (sym at) (refl, refl),
-        subst (λ (o : Option Link). IsSomeAnd o (λ link. (link.kind ≡ Strong) × (slice_get link.shared 1 ≡ Some (value_number code right)))) (sym at) (refl, refl),
+      let at : slice_get (links shape blocks) s ≡ Some (link_of shape (Mul left right)) = links-at shape blocks s (Mul left right) there in (
+        subst (λ (o : Option Link). IsSomeAnd o (λ link. (link.kind ≡ Strong) × (slice_get link.shared 0 ≡ Some (value_number shape left)))) (sym at) (refl, refl),
+        subst (λ (o : Option Link). IsSomeAnd o (λ link. (link.kind ≡ Strong) × (slice_get link.shared 1 ≡ Some (value_number shape right)))) (sym at) (refl, refl),
       )
 
   -- two values at the two places of a strong block, in either order
@@ -384,14 +385,14 @@ module _ (code : Listing) (blocks : List Op) where
     pub place : ℕ
     pub other : ℕ
     pub stands : StandsAt s place first × StandsAt s other second
-    pub both : (v : ℕ) → (Reaches inputs (links code blocks) v s place × Reaches inputs (links code blocks) v s other) ↔ IsDoubled code blocks v s
+    pub both : (v : ℕ) → (Reaches inputs (links shape blocks) v s place × Reaches inputs (links shape blocks) v s other) ↔ IsDoubled shape blocks v s
 
   -- the operands of a product, in either order, stand at its places
   pub product-places : (s : ℕ) (left right first second : Operand) → s < length blocks → get_or blocks s (Const 0) ≡ Mul left right
-      → ((first ≡ left) × (second ≡ right)) ⊎ ((first ≡ right) × (second ≡ left)) → HavePlaces s (value_number code first) (value_number code second)
+      → ((first ≡ left) × (second ≡ right)) ⊎ ((first ≡ right) × (second ≡ left)) → HavePlaces s (value_number shape first) (value_number shape second)
   product-places s left right first second within is order =
       let stands = product-stands s left right (slice_get-get_or blocks s (Const 0) within ∙ ap (λ (op : Op). Some op) is) in
-      let f : Operand → ℕ = value_number code in
+      let f : Operand → ℕ = value_number shape in
       elim (order) [
         | inl same ↦ record {
           place = 0;
@@ -410,12 +411,12 @@ module _ (code : Listing) (blocks : List Op) where
   -- what a search from an operand of block s has found, of the values from the number `least` on
   abbrev pub HasFound : ℕ → ℕ → ℕ → List ℕ → Type 0
   HasFound s w least found =
-      (place : ℕ) → StandsAt s place w → (v : ℕ) → Contains found v ↔ ((least ≤ v) × Reaches inputs (links code blocks) v s place)
+      (place : ℕ) → StandsAt s place w → (v : ℕ) → Contains found v ↔ ((least ≤ v) × Reaches inputs (links shape blocks) v s place)
 
   -- a value that both searches found is doubled, where the second left out none but those before all of the first
   pub common-doubled : (s first second least : ℕ) (firsts seconds : List ℕ) → HavePlaces s first second
       → HasFound s first 0 firsts → HasFound s second least seconds → All (λ v. least ≤ v) firsts
-      → (v : ℕ) → (Contains firsts v × Contains seconds v) ↔ IsDoubled code blocks v s
+      → (v : ℕ) → (Contains firsts v × Contains seconds v) ↔ IsDoubled shape blocks v s
   common-doubled s first second least firsts seconds places at_first at_second above v =
       let one = at_first places.place places.stands.0 v in
       let other = at_second places.other places.stands.1 v in (
@@ -427,7 +428,7 @@ module _ (code : Listing) (blocks : List Op) where
       )
 
   -- only a product has two places
-  two-places : (op : Op) (x : ℕ) → kind op ≡ Strong → slice_get (map (value_number code) (shared_operands op)) 1 ≡ Some x
+  two-places : (op : Op) (x : ℕ) → kind op ≡ Strong → slice_get (map (value_number shape) (shared_operands op)) 1 ≡ Some x
       → ((left right : Operand) → op ≡ Mul left right → ⊥) → ⊥
   two-places (Mul left right) x strong at other = other left right refl
   two-places (Refresh arg) x strong at other = absurd (cc)
@@ -435,14 +436,14 @@ module _ (code : Listing) (blocks : List Op) where
 
   -- no other block doubles a value
   pub other-none : (s : ℕ) (op : Op) → slice_get blocks s ≡ Some op → ((left right : Operand) → op ≡ Mul left right → ⊥)
-      → (v : ℕ) → IsDoubled code blocks v s → ⊥
+      → (v : ℕ) → IsDoubled shape blocks v s → ⊥
   other-none s op there other v doubled =
-      let at = links-from code blocks s (λ link. (link.kind ≡ Strong) × (slice_get link.shared 1 ≡ Some doubled.1.operand)) doubled.1.strong in
+      let at = links-from shape blocks s (λ link. (link.kind ≡ Strong) × (slice_get link.shared 1 ≡ Some doubled.1.operand)) doubled.1.strong in
       let same : at.0 ≡ op = same_Some at.0 op (sym at.1 ∙ there) in
       two-places at.0 doubled.1.operand at.2.0 at.2.1 (λ left right is. other left right (sym same ∙ is))
 
   -- where no block doubles one, none is doubled
-  pub all-undoubled : (n : ℕ) → length blocks ≤ n → ((s v : ℕ) → s < n → IsDoubled code blocks v s → ⊥) → Undoubled inputs (links code blocks)
+  pub all-undoubled : (n : ℕ) → length blocks ≤ n → ((s v : ℕ) → s < n → IsDoubled shape blocks v s → ⊥) → Undoubled inputs (links shape blocks)
   all-undoubled n all none v s first second =
-      let at = links-from code blocks s (λ link. (link.kind ≡ Strong) × (slice_get link.shared 0 ≡ Some first.operand)) first.strong in
+      let at = links-from shape blocks s (λ link. (link.kind ≡ Strong) × (slice_get link.shared 0 ≡ Some first.operand)) first.strong in
       none s v (omega (arith, all, slice_get_within blocks s at.0 at.1)) (first, second)

@@ -1,3 +1,4 @@
 pub mod Verdict
+pub mod Gadgets
 pub mod Laying
 pub mod Passing

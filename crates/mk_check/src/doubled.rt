@@ -6,13 +6,14 @@ ghost use Rattle.std.specs.Prelude.{◌≡◌, ◌⊎◌, ◌+◌, ◌<◌, ◌�
 ghost use Rattle.mk_ssa.specs.declared.Op.{Op};
 ghost use Rattle.mk_ssa.specs.declared.Operand.{Operand};
 ghost use Rattle.mk_ssa.specs.Kinds.{Strong};
+ghost use Rattle.mk_rules.specs.Shape.{shape_of};
 ghost use Rattle.mk_rules.specs.Tiles.{value_number as number_by_operand};
 ghost use Rattle.mk_rules.specs.Wired.{Wired, IsSharedThere};
 ghost use Rattle.mk_rules.specs.Reaches.{Reaches, Undoubled, links};
 ghost use Rattle.mk_check.specs.Passing.{linear_operands as operands_by_kind, Leads, IsFinding, IsAdded, IsDoubling};
 
 use crate::refusal::CheckRefusal;
-use crate::tiles::value_number;
+use crate::tiles::number_of;
 use mk_base::Memory;
 use mk_code::Code;
 use mk_ssa::{Op, Operand};
@@ -31,7 +32,8 @@ fn linear_operands(op: &Op) -> (Option<Operand>, Option<Operand>)
 /// The operands that lead to the value with this number, if it is that of a linear block.
 fn leading_to(code: &Code, blocks: &[Op], number: usize) -> (Option<Operand>, Option<Operand>)
     requires { number < code.now.secrets + code.now.publics + length blocks.now }
-    ensures { (v : ℕ) → Contains (map (number_by_operand code.now) (option_to_list result.0 ++ option_to_list result.1)) v ↔ Leads code.now blocks.now v number }
+    ensures { (v : ℕ) → Contains (map (number_by_operand (shape_of code.now)) (option_to_list result.0
+        ++ option_to_list result.1)) v ↔ Leads (shape_of code.now) blocks.now v number }
 {
     let inputs = code.secrets() as usize + code.publics() as usize;
     if number < inputs {
@@ -93,12 +95,13 @@ impl Search {
         least: usize,
         value: Option<Operand>,
     ) -> Result<(), Memory>
-        requires there { IfSome value (λ v. number_by_operand code.now v < length self.old.stamps.items) }
+        requires there { IfSome value (λ v. number_by_operand (shape_of code.now) v < length self.old.stamps.items) }
         requires finding { IsFinding stamp self.old }
-        ensures { OnOk result (IsAdded stamp least (map (number_by_operand code.now) (option_to_list value)) self.old self.new) }
+        ensures { OnOk result (IsAdded stamp least (map (number_by_operand (shape_of code.now))
+            (option_to_list value)) self.old self.new) }
     {
         if let Some(value) = value {
-            self.add_number(stamp, least, value_number(code, value))?;
+            self.add_number(stamp, least, number_of(code, value))?;
         }
         Ok(())
     }
@@ -113,15 +116,21 @@ impl Search {
         value: Operand,
         least: usize,
     ) -> Result<(), Memory>
-        requires wired { Wired code.now blocks.now }
+        requires wired { Wired (shape_of code.now) blocks.now }
         requires small { length blocks.now < 2 ^ 32 }
         requires there { block < length blocks.now }
-        requires value { number_by_operand code.now value < code.now.secrets + code.now.publics + block }
+        requires value { number_by_operand (shape_of code.now) value < code.now.secrets + code.now.publics + block }
         requires count { length self.old.stamps.items ≡ code.now.secrets + code.now.publics + length blocks.now }
         requires stamps { All (λ s. s ≤ block) self.old.stamps.items }
         ensures count { OnOk result (length self.new.stamps.items ≡ length self.old.stamps.items) }
         ensures finding { OnOk result (IsFinding (block + 1) self.new) }
-        ensures found { OnOk result ((place : ℕ) → IsSomeAnd (slice_get (links code.now blocks.now) block) (λ link. (link.kind ≡ Strong) × (slice_get link.shared place ≡ Some (number_by_operand code.now value))) → (v : ℕ) → Contains self.new.found.items v ↔ ((least ≤ v) × Reaches (code.now.secrets + code.now.publics) (links code.now blocks.now) v block place)) }
+        ensures found { OnOk result ((place : ℕ)
+            → IsSomeAnd (slice_get (links (shape_of code.now) blocks.now) block)
+            (λ link. (link.kind ≡ Strong)
+            × (slice_get link.shared place ≡ Some (number_by_operand (shape_of code.now) value)))
+            → (v : ℕ) → Contains self.new.found.items v
+            ↔ ((least ≤ v)
+            × Reaches (code.now.secrets + code.now.publics) (links (shape_of code.now) blocks.now) v block place)) }
     {
         let stamp = block as u32 + 1;
         self.found.clear();
@@ -161,7 +170,8 @@ fn first_common(left: &Search, right: &Search, stamp: u32) -> Option<usize>
     requires right { IsFinding stamp right.now }
     requires count { length left.now.stamps.items ≡ length right.now.stamps.items }
     ensures common { IfSome result (λ v. Contains left.now.found.items v × Contains right.now.found.items v) }
-    ensures least { (v : ℕ) → Contains left.now.found.items v → Contains right.now.found.items v → IsSomeAnd result (λ first. first ≤ v) }
+    ensures least { (v : ℕ) → Contains left.now.found.items v → Contains right.now.found.items v
+        → IsSomeAnd result (λ first. first ≤ v) }
 {
     let mut first = None;
     for k in 0..right.found.len() {
@@ -176,7 +186,8 @@ fn first_common(left: &Search, right: &Search, stamp: u32) -> Option<usize>
 /// The value with this number.
 fn value_at(code: &Code, number: usize) -> Operand
     requires { number < code.now.secrets + code.now.publics + 2 ^ 32 }
-    ensures { (blocks : List Op) (value : Operand) → IsSharedThere code.now blocks value → number_by_operand code.now value ≡ number → result ≡ value }
+    ensures { (blocks : List Op) (value : Operand) → IsSharedThere (shape_of code.now) blocks value
+        → number_by_operand (shape_of code.now) value ≡ number → result ≡ value }
 {
     let secrets = code.secrets() as usize;
     let inputs = secrets + code.publics() as usize;
@@ -192,9 +203,9 @@ fn value_at(code: &Code, number: usize) -> Operand
 /// Both operands, first the one with the greater number.
 fn later_first(code: &Code, left: Operand, right: Operand) -> (Operand, Operand)
     ensures same { ((result.0 ≡ left) × (result.1 ≡ right)) ⊎ ((result.0 ≡ right) × (result.1 ≡ left)) }
-    ensures later { number_by_operand code.now result.1 ≤ number_by_operand code.now result.0 }
+    ensures later { number_by_operand (shape_of code.now) result.1 ≤ number_by_operand (shape_of code.now) result.0 }
 {
-    if value_number(code, left) < value_number(code, right) {
+    if number_of(code, left) < number_of(code, right) {
         (right, left)
     } else {
         (left, right)
@@ -205,10 +216,10 @@ fn later_first(code: &Code, left: Operand, right: Operand) -> (Operand, Operand)
 /// value. A product costs what reaches its later operand, and of what reaches the other one the values that
 /// aren't before all of that, however many blocks there are.
 pub(crate) fn undoubled(alloc: Global, code: &Code, blocks: &[Op]) -> Result<(), CheckRefusal>
-    requires wired { Wired code.now blocks.now }
+    requires wired { Wired (shape_of code.now) blocks.now }
     requires small { length blocks.now < 2 ^ 32 }
-    ensures ok { OnOk result (Undoubled (code.now.secrets + code.now.publics) (links code.now blocks.now)) }
-    ensures doubled { IfErr result (λ e. (e ≡ CheckRefusal.Memory) ⊎ IsDoubling code.now blocks.now e) }
+    ensures ok { OnOk result (Undoubled (code.now.secrets + code.now.publics) (links (shape_of code.now) blocks.now)) }
+    ensures doubled { IfErr result (λ e. (e ≡ CheckRefusal.Memory) ⊎ IsDoubling (shape_of code.now) blocks.now e) }
 {
     let count = code.secrets() as usize + code.publics() as usize + blocks.len();
     let mut from_later = Search::new(alloc, count)?;

@@ -1,13 +1,10 @@
 //! Whether a code's outputs are the claimed values.
 
 ghost use Rattle.std.specs.Prelude.{◌≡◌, ◌+◌, ◌*◌, ◌<◌, ◌^◌, ◌↔◌, [], ℕ, IsTrue, MatchOption, length, slice_index_or};
-ghost use Rattle.mk_gadget.specs.Product.{product_gadget};
-ghost use Rattle.mk_gadget.specs.Refresh.{refresh_gadget};
-ghost use Rattle.mk_rules.specs.Accepts.{Outputs};
-ghost use Rattle.mk_rules.specs.Places.{output_places, IsClaimed, FirstWrongOutput};
-ghost use Rattle.mk_check.specs.Laying.{all_banks};
+ghost use Rattle.mk_rules.specs.Accepts.{AreOutputs};
+ghost use Rattle.mk_rules.specs.Faults.{output_places, IsClaimed, FirstWrongOutput};
 
-use crate::tiles::value_number;
+use crate::tiles::number_of;
 use crate::wired::is_shared_there;
 use mk_base::Items;
 use mk_code::Code;
@@ -28,8 +25,7 @@ fn output(code: &Code, k: usize) -> &[u32]
     requires { k * (code.now.order + 1) < length code.now.outs }
     ensures { result.now ≡ output_places code.now k }
 {
-    // `field` also ensures that the code fits together.
-    let _fits = code.field();
+    code.law();
     let shares = usize::from(code.order()) + 1;
     let start = k * shares;
     &code.outs().as_slice()[start..start + shares]
@@ -43,17 +39,15 @@ fn is_claimed(
     claims: &[Operand],
     k: usize,
 ) -> bool
-    requires banks { banks.now ≡ all_banks code.now blocks.now }
     requires small { k < 2 ^ 32 }
-    ensures { IsTrue result ↔ IsClaimed code.now (product_gadget (code.now.order + 1)) (refresh_gadget (code.now.order + 1)) blocks.now claims.now k }
+    ensures { IsTrue result ↔ IsClaimed code.now banks.now blocks.now claims.now k }
 {
-    // `field` also ensures that the code fits together.
-    let _fits = code.field();
+    code.law();
     let shares = usize::from(code.order()) + 1;
     match claims.get(k) {
         Some(value) if k * shares < code.outs().len() => {
             is_shared_there(code, blocks, *value)
-                && is_bank(banks, value_number(code, *value), output(code, k))
+                && is_bank(banks, number_of(code, *value), output(code, k))
         }
         _ => false,
     }
@@ -66,9 +60,9 @@ pub(crate) fn first_wrong_output(
     banks: &[Items<u32>],
     claims: &[Operand],
 ) -> Option<u32>
-    requires banks { banks.now ≡ all_banks code.now blocks.now }
     requires small { length claims.now < 2 ^ 32 }
-    ensures { MatchOption result (Outputs code.now (product_gadget (code.now.order + 1)) (refresh_gadget (code.now.order + 1)) blocks.now claims.now) (λ k. FirstWrongOutput code.now (product_gadget (code.now.order + 1)) (refresh_gadget (code.now.order + 1)) blocks.now claims.now k) }
+    ensures { MatchOption result (AreOutputs code.now banks.now blocks.now claims.now)
+        (λ k. FirstWrongOutput code.now banks.now blocks.now claims.now k) }
 {
     for k in 0..claims.len() {
         if !is_claimed(code, blocks, banks, claims, k) {

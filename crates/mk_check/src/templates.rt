@@ -1,12 +1,12 @@
 //! The templates of all operators, by their instructions and their shares.
 
 ghost use Rattle.std.specs.Prelude.{◌≡◌, ◌≢◌, ◌≤◌, ◌<◌, ◌+◌, ◌*◌, ℕ, Some, IfOk, length, slice_get};
-ghost use Rattle.std.specs.List.{range_with_len};
 ghost use Rattle.mk_base.specs.declared.TheConstants.{TOP_ORDER};
 ghost use Rattle.mk_ssa.specs.Kinds.{Strong, kind, shared_operands, public_operands};
 ghost use Rattle.mk_gadget.specs.Product.{product_gadget};
 ghost use Rattle.mk_gadget.specs.Refresh.{refresh_gadget};
 ghost use Rattle.mk_gadget.specs.Template.{built_in};
+ghost use Rattle.mk_check.specs.Gadgets.{template_of, built_in_gadgets};
 
 use mk_base::{Items, Memory};
 use mk_code::{Code, CodeBuilder, Instr};
@@ -17,8 +17,8 @@ use mk_ssa::Op;
 use std::alloc::Global;
 use std::marker::Model;
 
-/// The templates of all operators with some number of shares. Those of the product and of the refresh
-/// stand in codes of their own, whose inputs are the operands.
+/// The templates of all operators with some number of shares, the gadgets of the product and of the refresh
+/// being given: they stand in codes of their own, whose inputs are the operands.
 #[derive(Drop)]
 pub(crate) struct Templates {
     shares: u32,
@@ -27,21 +27,24 @@ pub(crate) struct Templates {
 }
 
 impl Model for Templates {
-    ghost use Rattle.std.specs.Prelude.{◌≡◌, ◌≤◌, ℕ};
-    ghost use Rattle.mk_gadget.specs.Product.{product_gadget};
-    ghost use Rattle.mk_gadget.specs.Refresh.{refresh_gadget};
+    ghost use Rattle.std.specs.Prelude.{◌≤◌};
+    ghost use Rattle.mk_check.specs.Gadgets.{Gadgets};
 
-    ghost Value = { ℕ };
+    ghost Value = { Gadgets };
 
-    ghost view = { λ t. t.shares };
+    ghost view = { λ t. record {
+      shares = t.shares;
+      product = record { instrs = t.product.instrs; outs = t.product.outs };
+      refresh = record { instrs = t.refresh.instrs; outs = t.refresh.outs };
+    } };
 
-    ghost invariant = { λ t. (1 ≤ t.shares) × (t.shares ≤ 16) × (t.product.instrs ≡ (product_gadget t.shares).instrs) × (t.product.outs ≡ (product_gadget t.shares).outs) × (t.refresh.instrs ≡ (refresh_gadget t.shares).instrs) × (t.refresh.outs ≡ (refresh_gadget t.shares).outs) };
+    ghost invariant = { λ t. (1 ≤ t.shares) × (t.shares ≤ 16) };
 }
 
 impl Templates {
     /// Instruction `k` of the template of an operator, if it has as many.
     pub(crate) fn instr(&self, op: &Op, k: u32) -> Option<Instr>
-        ensures { result ≡ slice_get (built_in self.now op.now).instrs k }
+        ensures { result ≡ slice_get (template_of self.now op.now).instrs k }
     {
         match op {
             Op::Mul { .. } => self.product.instrs().as_slice().get(k as usize).copied(),
@@ -53,7 +56,7 @@ impl Templates {
 
     /// The place of share `k` in its out bank, if it has as many.
     pub(crate) fn share_place(&self, op: &Op, k: u32) -> Option<u32>
-        ensures { result ≡ slice_get (built_in self.now op.now).outs k }
+        ensures { result ≡ slice_get (template_of self.now op.now).outs k }
     {
         match op {
             Op::Mul { .. } => self.product.outs().as_slice().get(k as usize).copied(),
@@ -65,7 +68,8 @@ impl Templates {
 
     /// How many instructions the template of a public or linear operator has, and its out bank places.
     fn rows(&self, op: &Op) -> u32
-        ensures rows { (kind op.now ≢ Strong) → (result ≡ length (built_in self.now op.now).instrs) × (result ≡ length (built_in self.now op.now).outs) }
+        ensures rows { (kind op.now ≢ Strong) → (result ≡ length (template_of self.now op.now).instrs)
+            × (result ≡ length (template_of self.now op.now).outs) }
         ensures small { result ≤ 16 }
     {
         if op.is_public() { 1 } else { self.shares }
@@ -121,47 +125,39 @@ fn row(op: &Op, shares: u32, k: u32) -> Instr
     }
 }
 
-/// The places from `first` on, one for each share.
-fn bank_at<const N: usize>(first: u32) -> Bank<N>
-    requires first { first ≤ 16 }
-    requires shares { N ≤ 16 }
-    ensures { result.regs ≡ range_with_len first N }
-{
-    let mut regs = [first; N];
-    for share in 0..N {
-        regs[share] = first + share as u32;
-    }
-    Bank { regs }
-}
-
 /// The product as a code of its own.
 fn product_code<F: Field, const N: usize>(alloc: Global) -> Result<Code, Memory>
-    requires shares { (2 ≤ N) × (N ≤ 9) }
+    requires shares { (2 ≤ N) × (N ≤ TOP_ORDER + 1) }
     ensures instrs { IfOk result (λ code. code.instrs ≡ (product_gadget N).instrs) }
     ensures outs { IfOk result (λ code. code.outs ≡ (product_gadget N).outs) }
 {
     let mut builder = CodeBuilder::<F>::new(alloc, N as u8 - 1, 2, 0, Items::new(alloc));
-    let bank = emit_mul::<F, N>(&mut builder, &bank_at::<N>(0), &bank_at::<N>(N as u32))?;
+    let bank = emit_mul::<F, N>(
+        &mut builder,
+        &Bank::from_first(0),
+        &Bank::from_first(N as u32),
+    )?;
     let outs = Vec::from_slice(alloc, &bank.regs)?;
     Ok(builder.finish(Items::from_vec(outs)))
 }
 
 /// The refresh as a code of its own.
 fn refresh_code<F: Field, const N: usize>(alloc: Global) -> Result<Code, Memory>
-    requires shares { (2 ≤ N) × (N ≤ 9) }
+    requires shares { (2 ≤ N) × (N ≤ TOP_ORDER + 1) }
     ensures instrs { IfOk result (λ code. code.instrs ≡ (refresh_gadget N).instrs) }
     ensures outs { IfOk result (λ code. code.outs ≡ (refresh_gadget N).outs) }
 {
     let mut builder = CodeBuilder::<F>::new(alloc, N as u8 - 1, 1, 0, Items::new(alloc));
-    let bank = emit_refresh::<F, N>(&mut builder, &bank_at::<N>(0))?;
+    let bank = emit_refresh::<F, N>(&mut builder, &Bank::from_first(0))?;
     let outs = Vec::from_slice(alloc, &bank.regs)?;
     Ok(builder.finish(Items::from_vec(outs)))
 }
 
-/// The templates with `N` shares.
+/// The templates with `N` shares, by the product and the refresh that emitters append.
 fn with_shares<F: Field, const N: usize>(alloc: Global) -> Result<Templates, Memory>
-    requires shares { (2 ≤ N) × (N ≤ 9) }
-    ensures { IfOk result (λ templates. templates ≡ N) }
+    requires shares { (2 ≤ N) × (N ≤ TOP_ORDER + 1) }
+    ensures shares { IfOk result (λ templates. templates.shares ≡ N) }
+    ensures built_in { IfOk result (λ templates. templates ≡ built_in_gadgets templates.shares) }
 {
     Ok(Templates {
         shares: N as u32,
@@ -170,10 +166,11 @@ fn with_shares<F: Field, const N: usize>(alloc: Global) -> Result<Templates, Mem
     })
 }
 
-/// The templates at an order.
+/// The templates at an order, by the product and the refresh that emitters append.
 pub(crate) fn at_order(alloc: Global, order: u8) -> Result<Templates, Memory>
     requires order { (1 ≤ order) × (order ≤ TOP_ORDER) }
-    ensures { IfOk result (λ templates. templates ≡ order + 1) }
+    ensures shares { IfOk result (λ templates. templates.shares ≡ order + 1) }
+    ensures built_in { IfOk result (λ templates. templates ≡ built_in_gadgets templates.shares) }
 {
     with_order!(order, with_shares::<Gf2>(alloc))
 }

@@ -2,36 +2,35 @@
 
 ghost use Rattle.std.specs.Prelude.{◌≡◌, ◌⊎◌, ◌+◌, ◌*◌, ◌<◌, ◌≤◌, ◌^◌, ◌↔◌, ◌++◌, [], ℕ, IsTrue, IfOk, IfErr, length, take, option_to_list, slice_get, slice_index_or, Some};
 ghost use Rattle.std.specs.List.{range_with_len};
+ghost use Rattle.mk_base.specs.declared.TheConstants.{TOP_ORDER};
+ghost use Rattle.mk_code.specs.declared.TheConstants.{MOST_INPUTS};
 ghost use Rattle.mk_code.specs.Counting.{AllBelow};
 ghost use Rattle.mk_code.specs.Listing.{FitsAt};
 ghost use Rattle.mk_gadget.specs.Gadget.{placement, moved, placed_outs};
-ghost use Rattle.mk_gadget.specs.Template.{built_in};
+ghost use Rattle.mk_rules.specs.Shape.{shape_of};
 ghost use Rattle.mk_rules.specs.Wired.{Wired};
+ghost use Rattle.mk_rules.specs.Privacy.{HaveTemplates};
 ghost use Rattle.mk_rules.specs.Tiles as rule;
 ghost use Rattle.mk_rules.specs.Tiles.{value_number as number_by_operand, input_banks as banks_of_inputs, first_place};
+ghost use Rattle.mk_check.specs.Gadgets.{far, template_of};
 ghost use Rattle.mk_check.specs.Laying.{all_laid, all_banks, AgreesTo, IsOffTile};
 
 use crate::refusal::CheckRefusal;
 use crate::templates::Templates;
 use mk_base::{Items, Memory};
 use mk_code::{Code, Instr};
+use mk_rules::value_number;
 use mk_ssa::{Op, Operand};
 use std::alloc::Global;
 
 /// The places of shares, for each value by its number.
 pub(crate) type BankList = Items<Items<u32>>;
 
-/// The number of a value: first the secrets, then the publics, then the blocks.
-pub(crate) fn value_number(code: &Code, value: Operand) -> usize
-    ensures { result ≡ number_by_operand code.now value }
+/// The number of a value over the inputs of a code.
+pub(crate) fn number_of(code: &Code, value: Operand) -> usize
+    ensures { result ≡ number_by_operand (shape_of code.now) value }
 {
-    let _fits = code.field();
-    let secrets = code.secrets() as usize;
-    match value {
-        Operand::Secret(k) => k as usize,
-        Operand::Public(k) => secrets + k as usize,
-        Operand::Block(k) => secrets + code.publics() as usize + k as usize,
-    }
+    value_number(code.secrets(), code.publics(), value)
 }
 
 /// Neighbouring places.
@@ -48,9 +47,9 @@ fn range(alloc: Global, first: u32, count: u32) -> Result<Items<u32>, Memory>
 
 /// The banks of the secrets and of the publics.
 fn input_banks(alloc: Global, code: &Code) -> Result<BankList, Memory>
-    ensures { IfOk result (λ banks. banks ≡ banks_of_inputs code.now) }
+    ensures { IfOk result (λ banks. banks ≡ banks_of_inputs (shape_of code.now)) }
 {
-    let _fits = code.field();
+    code.law();
     let shares = u32::from(code.order()) + 1;
     let mut banks = Items::new(alloc);
     for secret in 0..code.secrets() {
@@ -69,9 +68,10 @@ fn read(
     banks: &[Items<u32>],
     value: Operand,
 ) -> Result<(), Memory>
-    ensures { IfOk result (λ _. places.new ≡ places.old ++ slice_index_or banks.now (number_by_operand code.now value) []) }
+    ensures { IfOk result (λ _. places.new ≡ places.old ++ slice_index_or banks.now
+        (number_by_operand (shape_of code.now) value) []) }
 {
-    if let Some(bank) = banks.get(value_number(code, value)) {
+    if let Some(bank) = banks.get(number_of(code, value)) {
         for place in bank.as_slice() {
             places.push(*place)?;
         }
@@ -81,7 +81,7 @@ fn read(
 
 /// The places that a block of this operator reads.
 fn reads(alloc: Global, code: &Code, banks: &[Items<u32>], op: &Op) -> Result<Items<u32>, Memory>
-    ensures { IfOk result (λ places. places ≡ rule.reads code.now banks.now op.now) }
+    ensures { IfOk result (λ places. places ≡ rule.reads (shape_of code.now) banks.now op.now) }
 {
     let mut places = Items::new(alloc);
     let (first, second) = op.operands();
@@ -107,11 +107,11 @@ fn placed(reads: &[u32], base: u32, place: u32) -> u32
 
 /// An instruction of a gadget that is placed at `base`.
 fn placed_instr(code: &Code, reads: &[u32], base: u32, instr: Instr) -> Instr
-    requires fits { FitsAt code.now.field (length code.now.maps) 16777216 instr }
-    requires base { base ≤ 16777216 }
+    requires fits { FitsAt code.now.field (length code.now.maps) far instr }
+    requires base { base ≤ far }
     ensures { result ≡ moved (placement reads.now base) instr }
 {
-    let _fits = code.field();
+    code.law();
     match instr {
         Instr::Rnd | Instr::Const { .. } => instr,
         Instr::Copy { from } => Instr::Copy {
@@ -144,10 +144,10 @@ fn are_same(left: Instr, right: Instr) -> bool
 
 /// The place of the first instruction.
 fn first_instr(code: &Code) -> u32
-    ensures place { result ≡ first_place code.now }
-    ensures small { result ≤ 2097152 }
+    ensures place { result ≡ first_place (shape_of code.now) }
+    ensures small { result ≤ (TOP_ORDER + 2) * MOST_INPUTS }
 {
-    let _fits = code.field();
+    code.law();
     code.secrets() * (u32::from(code.order()) + 1) + code.publics()
 }
 
@@ -162,19 +162,21 @@ fn behind_block(
     reads: &[u32],
     start: u32,
 ) -> Result<u32, CheckRefusal>
-    requires shares { templates.now ≡ code.now.order + 1 }
-    requires wired { Wired code.now blocks.now }
+    requires shares { templates.now.shares ≡ code.now.order + 1 }
+    requires templates { HaveTemplates (shape_of code.now) templates.now.product templates.now.refresh blocks.now }
+    requires wired { Wired (shape_of code.now) blocks.now }
     requires op { slice_get blocks.now k ≡ Some op.now }
-    requires reads { reads.now ≡ rule.reads code.now (all_banks code.now (take k blocks.now)) op.now }
-    requires start { start ≡ length (all_laid code.now (take k blocks.now)) }
+    requires reads { reads.now ≡ rule.reads (shape_of code.now)
+        (all_banks (shape_of code.now) templates.now (take k blocks.now)) op.now }
+    requires start { start ≡ length (all_laid (shape_of code.now) templates.now (take k blocks.now)) }
     requires within { start ≤ length code.now.instrs }
-    requires agrees { AgreesTo code.now blocks.now start }
-    ensures end { IfOk result (λ end. end ≡ start + length (built_in templates.now op.now).instrs) }
+    requires agrees { AgreesTo code.now templates.now blocks.now start }
+    ensures end { IfOk result (λ end. end ≡ start + length (template_of templates.now op.now).instrs) }
     ensures within { IfOk result (λ end. end ≤ length code.now.instrs) }
-    ensures agrees { IfOk result (λ end. AgreesTo code.now blocks.now end) }
-    ensures off { IfErr result (λ e. IsOffTile code.now blocks.now e) }
+    ensures agrees { IfOk result (λ end. AgreesTo code.now templates.now blocks.now end) }
+    ensures off { IfErr result (λ e. IsOffTile code.now templates.now blocks.now e) }
 {
-    let _fits = code.field();
+    code.law();
     let base = first_instr(code) + start;
     let instrs = code.instrs().as_slice();
     let mut next = 0;
@@ -200,9 +202,9 @@ fn out_bank(
     reads: &[u32],
     base: u32,
 ) -> Result<Items<u32>, Memory>
-    requires outs { AllBelow 16777216 (built_in templates.now op.now).outs }
-    requires base { base ≤ 16777216 }
-    ensures { IfOk result (λ bank. bank ≡ placed_outs reads.now base (built_in templates.now op.now)) }
+    requires outs { AllBelow far (template_of templates.now op.now).outs }
+    requires base { base ≤ far }
+    ensures { IfOk result (λ bank. bank ≡ placed_outs reads.now base (template_of templates.now op.now)) }
 {
     let mut bank = Items::new(alloc);
     let mut share = 0;
@@ -221,13 +223,14 @@ pub(crate) fn lay(
     templates: &Templates,
     blocks: &[Op],
 ) -> Result<BankList, CheckRefusal>
-    requires shares { templates.now ≡ code.now.order + 1 }
-    requires wired { Wired code.now blocks.now }
-    ensures tiles { IfOk result (λ banks. code.now.instrs ≡ all_laid code.now blocks.now) }
-    ensures banks { IfOk result (λ banks. banks ≡ all_banks code.now blocks.now) }
-    ensures off { IfErr result (λ e. (e ≡ CheckRefusal.Memory) ⊎ IsOffTile code.now blocks.now e) }
+    requires shares { templates.now.shares ≡ code.now.order + 1 }
+    requires templates { HaveTemplates (shape_of code.now) templates.now.product templates.now.refresh blocks.now }
+    requires wired { Wired (shape_of code.now) blocks.now }
+    ensures tiles { IfOk result (λ banks. code.now.instrs ≡ all_laid (shape_of code.now) templates.now blocks.now) }
+    ensures banks { IfOk result (λ banks. banks ≡ all_banks (shape_of code.now) templates.now blocks.now) }
+    ensures off { IfErr result (λ e. (e ≡ CheckRefusal.Memory) ⊎ IsOffTile code.now templates.now blocks.now e) }
 {
-    let _fits = code.field();
+    code.law();
     let mut banks = input_banks(alloc, code)?;
     let mut start = 0;
     for (k, op) in blocks.iter().enumerate() {

@@ -1,15 +1,16 @@
 //! Whether the operands of blocks are there, and of their kind.
 
 ghost use Rattle.std.specs.Prelude.{◌≡◌, ◌<◌, ◌^◌, ◌↔◌, ℕ, IsTrue, MatchOption, length};
+ghost use Rattle.mk_rules.specs.Shape.{shape_of};
 ghost use Rattle.mk_rules.specs.Wired.{IsSharedThere, IsPublicThere, IsWired, Wired};
-ghost use Rattle.mk_rules.specs.Places.{FirstUnwired};
+ghost use Rattle.mk_rules.specs.Faults.{FirstUnwired};
 
 use mk_code::Code;
 use mk_ssa::{Op, Operand};
 
 /// Whether the operand is a secret that is there or a shared block among those before.
 pub(crate) fn is_shared_there(code: &Code, before: &[Op], value: Operand) -> bool
-    ensures { IsTrue result ↔ IsSharedThere code.now before.now value }
+    ensures { IsTrue result ↔ IsSharedThere (shape_of code.now) before.now value }
 {
     match value {
         Operand::Secret(k) => k < code.secrets(),
@@ -23,7 +24,7 @@ pub(crate) fn is_shared_there(code: &Code, before: &[Op], value: Operand) -> boo
 
 /// Whether the operand is a public input that is there or a public block among those before.
 fn is_public_there(code: &Code, before: &[Op], value: Operand) -> bool
-    ensures { IsTrue result ↔ IsPublicThere code.now before.now value }
+    ensures { IsTrue result ↔ IsPublicThere (shape_of code.now) before.now value }
 {
     match value {
         Operand::Secret(_) => false,
@@ -38,7 +39,7 @@ fn is_public_there(code: &Code, before: &[Op], value: Operand) -> bool
 /// Whether each operand of the operator is there and of its kind among the blocks before, its map is
 /// one of the code's and its constant is an element of the field.
 fn is_wired(code: &Code, before: &[Op], op: &Op) -> bool
-    ensures { IsTrue result ↔ IsWired code.now before.now op.now }
+    ensures { IsTrue result ↔ IsWired (shape_of code.now) before.now op.now }
 {
     let is_shared = |value| is_shared_there(code, before, value);
     let is_public = |value| is_public_there(code, before, value);
@@ -62,7 +63,8 @@ fn is_wired(code: &Code, before: &[Op], op: &Op) -> bool
 /// The first block that isn't wired, if there is one.
 pub(crate) fn first_unwired(code: &Code, blocks: &[Op]) -> Option<u32>
     requires { length blocks.now < 2 ^ 32 }
-    ensures { MatchOption result (Wired code.now blocks.now) (λ k. FirstUnwired code.now blocks.now k) }
+    ensures { MatchOption result (Wired (shape_of code.now) blocks.now)
+        (λ k. FirstUnwired (shape_of code.now) blocks.now k) }
 {
     for (k, op) in blocks.iter().enumerate() {
         if !is_wired(code, &blocks[..k], op) {

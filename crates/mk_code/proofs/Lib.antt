@@ -10,3 +10,4 @@ pub mod Examples
 pub mod ColumnTest
 pub mod Matching
 pub mod TakenOut
+pub mod Observations

@@ -1,9 +1,8 @@
 -- One step of a run, and what is left to do behind it.
-use Rattle.std.proofs.Common.{◌≡◌, ℕ, zero, suc, ◌+◌, ◌*◌, ◌≤◌, ◌<◌, List, [], ◌∷◌, ◌++◌, length, drop, slice_index, slice_index_or, All, refl, sym, ◌∙◌, ap, subst, arith, add-one, drop-cons, lit<}
+use Rattle.std.proofs.Common.{◌≡◌, ℕ, zero, suc, ◌+◌, ◌*◌, ◌≤◌, ◌<◌, List, [], ◌∷◌, ◌++◌, length, drop, slice_index, slice_index_or, All, refl, sym, ◌∙◌, ap, subst, arith, add-one, drop-cons}
 use Rattle.mk_field.specs.declared.field.FieldId.{FieldId}
 use Rattle.std.proofs.lemmas.List.{drop_all}
 use Rattle.std.proofs.lemmas.List.Elements.{All-from_get_or}
-use Rattle.mk_field.specs.declared.field.FieldId.TheVariants.{Gf2, Gf256}
 use Rattle.mk_field.specs.declared.map.AddMap.{AddMap}
 use Rattle.mk_field.specs.Field.{size}
 use Rattle.mk_code.specs.declared.instr.Instr.{Instr}
@@ -70,11 +69,11 @@ AllFit-at field maps len (i ∷ is) (suc k) below fit =
     subst (λ (n : ℕ). FitsAt field maps n (slice_index_or is k Rnd)) e (AllFit-at field maps (len + 1) is k (omega arith) fit.1)
 
 -- an element of a list of elements
-pub AllBelow-at : (q : ℕ) (xs : List ℕ) (k : ℕ) → k < length xs → AllBelow q xs → slice_index xs k < q
+pub AllBelow-at : (q : ℕ) (xs : List ℕ) (k : ℕ) → AllBelow q xs → k < length xs → slice_index xs k < q
 unfolding AllBelow
-AllBelow-at q [] k below all = absurd (omega arith)
-AllBelow-at q (x ∷ xs) zero below all = all.0
-AllBelow-at q (x ∷ xs) (suc k) below all = AllBelow-at q xs k (omega arith) all.1
+AllBelow-at q [] k all below = absurd (omega arith)
+AllBelow-at q (x ∷ xs) zero all below = all.0
+AllBelow-at q (x ∷ xs) (suc k) all below = AllBelow-at q xs k all.1 (omega arith)
 
 -- behind the last instruction the trace is whole
 pub outcome-done : (p : Progress) (tape : List ℕ) → length p.code.instrs ≤ p.at → outcome p tape ≡ p.entries
@@ -130,14 +129,9 @@ IsProgress-new code publics shares first second = record {
       (Elements-append (size code.field) (code.secrets * (code.order + 1)) code.publics shares publics second first);
 }
 
--- 0 is an element
-pub zero-element : (field : FieldId) → 0 < size field
-zero-element Gf2 = lit< tt
-zero-element Gf256 = lit< tt
-
 -- numbers below q, said of each element
 pub All-below : (q : ℕ) (xs : List ℕ) → AllBelow q xs → All (λ a. a < q) xs
-All-below q xs below = All-from_get_or (λ (a : ℕ). a < q) xs 0 (λ k lt. AllBelow-at q xs k lt below)
+All-below q xs below = All-from_get_or (λ (a : ℕ). a < q) xs 0 (λ k lt. AllBelow-at q xs k below lt)
 
 -- and back
 pub AllBelow-all : (q : ℕ) (xs : List ℕ) → All (λ a. a < q) xs → AllBelow q xs

@@ -57,12 +57,6 @@ total-same q (suc n) g h same =
     sum_below-same q (λ a. total q n (λ rest. g (a ∷ rest))) (λ a. total q n (λ rest. h (a ∷ rest)))
     (λ a below. total-same q n (λ rest. g (a ∷ rest)) (λ rest. h (a ∷ rest)) (λ s here. same (a ∷ s) (Elements-cons q n a s below here)))
 
--- the total of zeros
-pub total-zero : (q n : ℕ) → total q n (λ s. 0) ≡ 0
-unfolding total
-total-zero q zero = refl
-total-zero q (suc n) = sum_below-same q (λ a. total q n (λ s. 0)) (λ a. 0) (λ a below. total-zero q n) ∙ sum_below-zero q
-
 -- the total of sums
 pub total-add : (q n : ℕ) (g h : List ℕ → ℕ) → total q n (λ s. g s + h s) ≡ total q n g + total q n h
 unfolding total

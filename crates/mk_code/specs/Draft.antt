@@ -5,7 +5,8 @@ use Rattle.mk_field.specs.declared.field.FieldId.{FieldId}
 use Rattle.mk_field.specs.declared.map.AddMap.{AddMap}
 use Rattle.mk_code.specs.declared.instr.Instr.{Instr}
 use Rattle.mk_code.specs.declared.TheConstants.{MOST_INPUTS, MOST_MAPS, MOST_INSTRS}
-use Rattle.mk_code.specs.Listing.{Listing, inputs_len, AllFit, HasMapsOnlyInBytes}
+use Rattle.mk_code.specs.Listing.{Listing, inputs_len, AllFit}
+use Rattle.mk_field.specs.Field.{HasMapsOnlyInBytes}
 
 -- what a code in the making has so far, and the room that is reserved for more instructions
 pub record Draft : Type 0 where

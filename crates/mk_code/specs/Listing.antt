@@ -2,9 +2,8 @@
 use Rattle.std.specs.Prelude.{◌≡◌, ℕ, ◌+◌, ◌*◌, ◌≤◌, ◌<◌, List, [], ◌∷◌, length, All}
 use Rattle.mk_base.specs.declared.TheConstants.{TOP_ORDER}
 use Rattle.mk_field.specs.declared.field.FieldId.{FieldId}
-use Rattle.mk_field.specs.declared.field.FieldId.TheVariants.{Gf2, Gf256}
 use Rattle.mk_field.specs.declared.map.AddMap.{AddMap}
-use Rattle.mk_field.specs.Field.{size}
+use Rattle.mk_field.specs.Field.{size, HasMapsOnlyInBytes}
 use Rattle.mk_code.specs.declared.instr.Instr.{Instr}
 use Rattle.mk_code.specs.declared.instr.Instr.TheVariants.{Rnd, Const, Copy, Add, Mul, Sq, Map}
 use Rattle.mk_code.specs.declared.TheConstants.{MOST_INPUTS, MOST_MAPS, MOST_INSTRS}
@@ -43,11 +42,6 @@ abbrev pub AllFit : FieldId → ℕ → ℕ → List Instr → Type 0
 AllFit field maps len [] = Unit {0}
 AllFit field maps len (i ∷ is) = FitsAt field maps len i × AllFit field maps (len + 1) is
 
--- there are maps on bytes only
-abbrev pub HasMapsOnlyInBytes : FieldId → List AddMap → Type 0
-HasMapsOnlyInBytes Gf2 maps = maps ≡ []
-HasMapsOnlyInBytes Gf256 maps = Unit {0}
-
 -- a code that fits together, within the limits
 pub record IsListing (code : Listing) : Type 0 where
   pub order : (1 ≤ code.order) × (code.order ≤ TOP_ORDER)
@@ -59,3 +53,11 @@ pub record IsListing (code : Listing) : Type 0 where
   pub fit : AllFit code.field (length code.maps) (inputs_len code.order code.secrets code.publics) code.instrs
   pub outs : All (λ p. p < trace_len code) code.outs
   pub outputs : (outputs : ℕ) × (outputs ≤ MOST_INPUTS) × (length code.outs ≡ outputs * (code.order + 1))
+
+-- the maps' images of the bits are elements of the field
+abbrev pub AreElementMaps : FieldId → List AddMap → Type 0
+AreElementMaps field maps = All (λ m. All (λ image. image < size field) m.images) maps
+
+-- the same of a code's maps
+abbrev pub HasElementImages : Listing → Type 0
+HasElementImages code = AreElementMaps code.field code.maps

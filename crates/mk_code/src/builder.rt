@@ -1,8 +1,10 @@
 ghost use Rattle.std.specs.Prelude.{◌≡◌, ◌+◌, ◌-◌, ◌*◌, ◌≤◌, ◌<◌, ◌≢◌, ◌++◌, ◌∷◌, [], length, OnOk, OnErr, IsTrue, ◌↔◌};
-ghost use Rattle.mk_code.specs.Listing.{FitsAt, HasMapsOnlyInBytes};
+ghost use Rattle.mk_code.specs.declared.TheConstants.{MOST_INPUTS, MOST_MAPS, MOST_INSTRS};
+ghost use Rattle.mk_code.specs.Listing.{FitsAt};
+ghost use Rattle.mk_field.specs.Field.{HasMapsOnlyInBytes};
 ghost use Rattle.mk_code.specs.Draft.{IsWholeWith, draft_len, finished};
 
-use crate::code::{Code, MapList, PositionList};
+use crate::code::{Code, MapList, PositionList, walk_maps};
 use crate::instr::Instr;
 use mk_base::{Items, Memory};
 use mk_field::Field;
@@ -25,13 +27,15 @@ pub struct CodeBuilder<F: Field> {
 impl<F: Field> Model for CodeBuilder<F> {
     ghost use Rattle.std.specs.Prelude.{◌≡◌, ◌-◌, ◌≤◌, ◌<◌, length, vec_capacity, vec_len};
     ghost use Rattle.mk_code.specs.Draft.{Draft, IsDraft};
+    ghost use Rattle.std.specs.List.{AllByRecursion};
+    ghost use Rattle.mk_field.specs.Maps.{MapFits};
     ghost use Rattle.mk_code.specs.Trace.{randoms};
 
     ghost Value = { Draft };
 
     ghost view = { λ b. record { order = b.order; secrets = b.secrets; publics = b.publics; maps = b.maps; instrs = b.instrs.items; spare = vec_capacity b.instrs - vec_len b.instrs } };
 
-    ghost invariant = { λ b. IsDraft F.ID (record { order = b.order; secrets = b.secrets; publics = b.publics; maps = b.maps; instrs = b.instrs.items; spare = 0 }) × (b.random_len ≡ randoms b.instrs.items) };
+    ghost invariant = { λ b. IsDraft F.ID (record { order = b.order; secrets = b.secrets; publics = b.publics; maps = b.maps; instrs = b.instrs.items; spare = 0 }) × AllByRecursion MapFits b.maps × (b.random_len ≡ randoms b.instrs.items) };
 }
 
 impl<F: Field> CodeBuilder<F> {
@@ -44,12 +48,13 @@ impl<F: Field> CodeBuilder<F> {
         maps: MapList,
     ) -> CodeBuilder<F>
         requires order { 1 ≤ order }
-        requires secrets { secrets ≤ 65536 }
-        requires publics { publics ≤ 65536 }
-        requires maps { length maps ≤ 32768 }
+        requires secrets { secrets ≤ MOST_INPUTS }
+        requires publics { publics ≤ MOST_INPUTS }
+        requires maps { length maps ≤ MOST_MAPS }
         requires bytes { HasMapsOnlyInBytes F.ID maps }
         ensures { result ≡ record { order = order; secrets = secrets; publics = publics; maps = maps; instrs = []; spare = result.spare } }
     {
+        walk_maps(maps.as_slice());
         CodeBuilder {
             order,
             secrets,
@@ -75,7 +80,7 @@ impl<F: Field> CodeBuilder<F> {
     /// takes no memory.
     pub fn push(&mut self, instr: Instr) -> u32
         requires room { 0 < self.old.spare }
-        requires few { length self.old.instrs < 8388608 }
+        requires few { length self.old.instrs < MOST_INSTRS }
         requires fits { FitsAt F.ID (length self.old.maps) (draft_len self.old) instr }
         ensures place { result ≡ draft_len self.old }
         ensures pushed { self.new ≡ record self.old { instrs = self.old.instrs ++ instr ∷ []; spare = self.old.spare - 1 } }

@@ -1,5 +1,7 @@
-ghost use Rattle.std.specs.Prelude.{◌≡◌, ◌+◌, ◌*◌, ◌≤◌, ◌<◌, ◌^◌, length};
-ghost use Rattle.mk_code.specs.Listing.{IsListing, trace_len};
+ghost use Rattle.std.specs.Prelude.{◌≡◌, ◌+◌, ◌*◌, ◌≤◌, ◌<◌, ◌^◌, All, length};
+ghost use Rattle.std.specs.List.{AllByRecursion};
+ghost use Rattle.mk_field.specs.Maps.{MapFits};
+ghost use Rattle.mk_code.specs.Listing.{IsListing, HasElementImages, trace_len};
 ghost use Rattle.mk_code.specs.Trace.{randoms};
 
 use crate::instr::Instr;
@@ -32,6 +34,8 @@ pub struct Code {
 
 impl Model for Code {
     ghost use Rattle.std.specs.Prelude.{◌≡◌};
+    ghost use Rattle.std.specs.List.{AllByRecursion};
+    ghost use Rattle.mk_field.specs.Maps.{MapFits};
     ghost use Rattle.mk_code.specs.Listing.{Listing, IsListing};
     ghost use Rattle.mk_code.specs.Trace.{randoms};
 
@@ -39,7 +43,7 @@ impl Model for Code {
 
     ghost view = { λ c. record { field = c.field; order = c.order; secrets = c.secrets; publics = c.publics; maps = c.maps; instrs = c.instrs; outs = c.outs } };
 
-    ghost invariant = { λ c. IsListing (record { field = c.field; order = c.order; secrets = c.secrets; publics = c.publics; maps = c.maps; instrs = c.instrs; outs = c.outs }) × (c.random_len ≡ randoms c.instrs) };
+    ghost invariant = { λ c. IsListing (record { field = c.field; order = c.order; secrets = c.secrets; publics = c.publics; maps = c.maps; instrs = c.instrs; outs = c.outs }) × AllByRecursion MapFits c.maps × (c.random_len ≡ randoms c.instrs) };
 }
 
 impl Code {
@@ -56,6 +60,7 @@ impl Code {
         requires { IsListing (record { field = field; order = order; secrets = secrets; publics = publics; maps = maps; instrs = instrs; outs = outs }) }
         ensures { result ≡ record { field = field; order = order; secrets = secrets; publics = publics; maps = maps; instrs = instrs; outs = outs } }
     {
+        walk_maps(maps.as_slice());
         let random_len = count_randoms(instrs.as_slice());
         Code {
             field,
@@ -67,6 +72,16 @@ impl Code {
             outs,
             random_len,
         }
+    }
+
+    /// What holds of every code: it fits together, each of its maps has eight images, which are bytes, and the
+    /// images are elements. It does nothing.
+    pub fn law(&self)
+        ensures fits { IsListing self.now }
+        ensures maps { AllByRecursion MapFits self.now.maps }
+        ensures images { HasElementImages self.now }
+    {
+        let _field = self.field;
     }
 
     /// The field that it computes in.
@@ -145,4 +160,21 @@ fn count_randoms(instrs: &[Instr]) -> u32
         count += instr.randoms();
     }
     count
+}
+
+/// Each of these maps has eight images, which are bytes. It only walks over the maps.
+pub(crate) fn walk_maps(maps: &[AddMap])
+    ensures { AllByRecursion MapFits maps.now }
+{
+    for map in maps {
+        map_law(*map);
+    }
+}
+
+/// A map has eight images, which are bytes. It does nothing.
+fn map_law(map: AddMap)
+    ensures count { length map.images ≡ 8 }
+    ensures bytes { All (λ image. image < 2 ^ 8) map.images }
+{
+    let _images = map.images;
 }

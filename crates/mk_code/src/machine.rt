@@ -8,7 +8,7 @@ ghost use Rattle.mk_code.specs.Used.{words};
 
 use crate::code::Code;
 use crate::instr::Instr;
-use mk_base::Memory;
+use mk_base::{Bytes, Items, Memory};
 use std::alloc::Global;
 use std::marker::Model;
 
@@ -147,6 +147,19 @@ impl<'a> Machine<'a> {
         ensures progress { IsProgress self.now }
     {
         self.entries.as_slice()
+    }
+
+    /// The trace so far, in the place of the run. It takes no memory.
+    pub fn into_trace(self) -> Bytes
+        ensures entries { result ≡ self.entry.entries }
+        ensures progress { IsProgress self.entry }
+    {
+        let Machine {
+            code: _,
+            at: _,
+            entries,
+        } = self;
+        Items::from_vec(entries)
     }
 }
 

@@ -15,7 +15,8 @@ use Rattle.mk_code.specs.Listing.{FitsAt}
 use Rattle.mk_code.proofs.Totals.{AllBelow-append}
 use Rattle.mk_gadget.specs.Gadget.{Gadget, placement, placed, placed_outs}
 use Rattle.mk_gadget.specs.Emitted.{Emitted}
-use Rattle.mk_gadget.proofs.AddTemplate.{placement-own, AllBelow-at}
+use Rattle.mk_gadget.proofs.Ranges.{placement-own}
+use Rattle.mk_code.proofs.Steps.{AllBelow-at}
 use Rattle.std.specs.List.{flat_map, AllByRecursion}
 use Rattle.std.proofs.lemmas.Bool.{lt-ltb}
 use Rattle.mk_code.specs.declared.instr.Instr.TheVariants as instr
@@ -23,7 +24,7 @@ use Rattle.mk_ssa.specs.declared.Op.{Op}
 use Rattle.mk_ssa.specs.declared.Op.TheVariants.{Const, PubAdd, PubMul, PubSq, PubMap, Lift, Add, AddPub, Scale, Sq, Map}
 use Rattle.mk_ssa.specs.Kinds.{Linear, kind, is_public, shared_operands, public_operands}
 use Rattle.mk_gadget.specs.Template.{built_in}
-use Rattle.mk_gadget.proofs.AddTemplate.{AllBelow-range}
+use Rattle.mk_gadget.proofs.Ranges.{AllBelow-range}
 use Rattle.mk_compile.specs.declared.places.Place.{Place}
 use Rattle.mk_compile.specs.declared.places.Place.TheVariants.{Shared, Public}
 use Rattle.mk_compile.specs.Places.{bank_at, is_public_at, bank_of, IsSharedAt, IsPublicAt, HasOperands, IsElement, AreBefore, places_read}
@@ -108,6 +109,7 @@ module _ {N : ℕ} (d : Draft) (secrets publics : ℕ) (blocks : List (Place N))
   behind-operands : (reads : List ℕ) (base q : ℕ) → length reads ≡ q → placement reads base q ≡ base
   behind-operands reads base q same = let end : base + (q - length reads) ≡ base = omega (arith, same) in placement-own reads base q (omega (arith, same)) ∙ end
 
+  -- a public operator whose operands are there has one instruction, which fits
   pub public-one : (field : FieldId) (op : Op) → is_public op ≡ true → IsElement field op → HasOperands secrets publics (length d.maps) blocks op → IsOne field op
   public-one field (Const value) public element there base =
       let end : base + (0 - 0) ≡ base = omega arith in

@@ -2,15 +2,16 @@
 use Rattle.std.proofs.Common.{◌≡◌, ℕ, ◌+◌, ◌*◌, ◌≤◌, List, [], ◌∷◌, All, length, map, slice_index_or, sym, ◌∙◌, ap, refl, subst}
 use Rattle.std.specs.List.{flat_map, AllByRecursion}
 use Rattle.std.proofs.lemmas.List.Elements.{All-from_recursion, recursion_from_All}
+use Rattle.mk_simplify.proofs.Trees.{AllByRecursion-weaker}
 use Rattle.mk_code.specs.declared.instr.Instr.{Instr}
 use Rattle.mk_code.specs.Draft.{Draft, draft_len, IsWholeWith}
-use Rattle.mk_code.specs.Listing.{Listing}
 use Rattle.mk_code.specs.Counting.{AllBelow}
 use Rattle.mk_code.proofs.Totals.{AllBelow-append}
 use Rattle.mk_code.proofs.Steps.{All-below}
 use Rattle.mk_ssa.specs.declared.Operand.{Operand}
 use Rattle.mk_ssa.specs.declared.Op.{Op}
 use Rattle.mk_ssa.specs.Kinds.{is_public}
+use Rattle.mk_rules.specs.Shape.{Shape}
 use Rattle.mk_rules.specs.Tiles.{value_number}
 use Rattle.mk_rules.specs.Wired.{IsSharedThere, Wired}
 use Rattle.mk_compile.specs.declared.places.Place.{Place}
@@ -19,11 +20,6 @@ use Rattle.mk_compile.specs.Places.{is_public_at, bank_of, IsSharedAt, AreBefore
 use Rattle.mk_compile.proofs.Banks.{shared-before}
 use Rattle.mk_compile.proofs.Emitted.{shared-placed, shared-bank, banks-same, before-placed}
 
--- what holds of all holds of each
-pub all-more : {X : Type 0} (P Q : X → Type 0) (xs : List X) → ((x : X) → P x → Q x) → AllByRecursion P xs → AllByRecursion Q xs
-all-more P Q [] more all = tt
-all-more P Q (x ∷ xs) more all = (more x all.0, all-more P Q xs more all.1)
-
 -- lists below an end, one after the other
 joined-below : {X : Type 0} (q : ℕ) (f : X → List ℕ) (P : X → Type 0) (xs : List X) → ((x : X) → P x → AllBelow q (f x)) → AllByRecursion P xs
     → AllBelow q (flat_map f xs)
@@ -31,38 +27,38 @@ unfolding AllBelow
 joined-below q f P [] below all = tt
 joined-below q f P (x ∷ xs) below all = AllBelow-append q (f x) (flat_map f xs) (below x all.0) (joined-below q f P xs below all.1)
 
-module _ {N : ℕ} (code : Listing) (order : code.order + 1 ≡ N) (blocks : List Op) (places : List (Place N)) (claims : List Operand) where
+module _ {N : ℕ} (shape : Shape) (order : shape.order + 1 ≡ N) (blocks : List Op) (places : List (Place N)) (claims : List Operand) where
   -- the claims are among the values that stand somewhere
-  pub claims-placed : map is_public_at places ≡ map is_public blocks → All (IsSharedThere code blocks) claims → All (IsSharedAt code.secrets places) claims
+  pub claims-placed : map is_public_at places ≡ map is_public blocks → All (IsSharedThere shape blocks) claims → All (IsSharedAt shape.secrets places) claims
   claims-placed kinds there =
-      All-from_recursion (IsSharedAt code.secrets places) claims
-      (all-more (IsSharedThere code blocks) (IsSharedAt code.secrets places) claims (λ v here. shared-placed code order blocks places v kinds here)
-      (recursion_from_All (IsSharedThere code blocks) claims there))
+      All-from_recursion (IsSharedAt shape.secrets places) claims
+      (AllByRecursion-weaker (IsSharedThere shape blocks) (IsSharedAt shape.secrets places) claims (λ v here. shared-placed shape order blocks places v kinds here)
+      (recursion_from_All (IsSharedThere shape blocks) claims there))
 
   -- their places are the outs
-  pub claims-outs : (instrs : List Instr) → ArePlaced code blocks instrs places → All (IsSharedThere code blocks) claims
-      → flat_map (bank_of code.secrets places) claims ≡ outs_of code blocks claims
+  pub claims-outs : (instrs : List Instr) → ArePlaced shape blocks instrs places → All (IsSharedThere shape blocks) claims
+      → flat_map (bank_of shape.secrets places) claims ≡ outs_of shape blocks claims
   claims-outs instrs so there =
-      banks-same code order (IsSharedAt code.secrets places) places claims (shared-bank code order places)
-      (recursion_from_All (IsSharedAt code.secrets places) claims (claims-placed so.kinds there))
-      ∙ ap (λ (banks : List (List ℕ)). flat_map (λ (v : Operand). slice_index_or banks (value_number code v) []) claims) so.banks
+      banks-same shape order (IsSharedAt shape.secrets places) places claims (shared-bank shape order places)
+      (recursion_from_All (IsSharedAt shape.secrets places) claims (claims-placed so.kinds there))
+      ∙ ap (λ (banks : List (List ℕ)). flat_map (λ (v : Operand). slice_index_or banks (value_number shape v) []) claims) so.banks
 
   -- the code is whole
-  pub claims-whole : (d : Draft) (outs : List ℕ) → d.order ≡ code.order → d.secrets ≡ code.secrets → d.publics ≡ code.publics
-      → (1 ≤ code.order) × (code.order ≤ 8) → Wired code blocks → ArePlaced code blocks d.instrs places → All (IsSharedThere code blocks) claims
-      → length claims ≤ 65536 → outs ≡ flat_map (bank_of code.secrets places) claims → length outs ≡ length claims * N → IsWholeWith d outs
+  pub claims-whole : (d : Draft) (outs : List ℕ) → d.order ≡ shape.order → d.secrets ≡ shape.secrets → d.publics ≡ shape.publics
+      → (1 ≤ shape.order) × (shape.order ≤ 8) → Wired shape blocks → ArePlaced shape blocks d.instrs places → All (IsSharedThere shape blocks) claims
+      → length claims ≤ 65536 → outs ≡ flat_map (bank_of shape.secrets places) claims → length outs ≡ length claims * N → IsWholeWith d outs
   claims-whole d outs same_order same_secrets same_publics range wired so there few places_are count =
       let shares : d.order + 1 ≡ N = ap (λ (t : ℕ). t + 1) same_order ∙ order in
-      let len : draft_len d ≡ code.secrets * (code.order + 1) + code.publics + length d.instrs =
+      let len : draft_len d ≡ shape.secrets * (shape.order + 1) + shape.publics + length d.instrs =
       ap (λ (t : ℕ). d.secrets * (t + 1) + d.publics + length d.instrs) same_order
-      ∙ ap (λ (s : ℕ). s * (code.order + 1) + d.publics + length d.instrs) same_secrets
-      ∙ ap (λ (p : ℕ). code.secrets * (code.order + 1) + p + length d.instrs) same_publics in
+      ∙ ap (λ (s : ℕ). s * (shape.order + 1) + d.publics + length d.instrs) same_secrets
+      ∙ ap (λ (p : ℕ). shape.secrets * (shape.order + 1) + p + length d.instrs) same_publics in
       let before : AreBefore (draft_len d) places =
-      subst (λ (q : ℕ). AreBefore q places) (sym len) (before-placed code order blocks d.instrs places wired so) in
-      let all : AllByRecursion (IsSharedAt code.secrets places) claims = recursion_from_All (IsSharedAt code.secrets places) claims (claims-placed so.kinds there) in
-      let below : AllBelow (draft_len d) (flat_map (bank_of code.secrets places) claims) =
-      joined-below (draft_len d) (bank_of code.secrets places) (IsSharedAt code.secrets places) claims
-      (λ v here. shared-before d code.secrets code.publics places shares (sym same_secrets) (sym same_publics) before v (bank_of code.secrets places v) here refl) all in
+      subst (λ (q : ℕ). AreBefore q places) (sym len) (before-placed shape order blocks d.instrs places wired so) in
+      let all : AllByRecursion (IsSharedAt shape.secrets places) claims = recursion_from_All (IsSharedAt shape.secrets places) claims (claims-placed so.kinds there) in
+      let below : AllBelow (draft_len d) (flat_map (bank_of shape.secrets places) claims) =
+      joined-below (draft_len d) (bank_of shape.secrets places) (IsSharedAt shape.secrets places) claims
+      (λ v here. shared-before d shape.secrets shape.publics places shares (sym same_secrets) (sym same_publics) before v (bank_of shape.secrets places v) here refl) all in
       record {
         order = subst (λ (t : ℕ). (1 ≤ t) × (t ≤ 8)) (sym same_order) range;
         outs = All-below (draft_len d) outs (subst (AllBelow (draft_len d)) (sym places_are) below);

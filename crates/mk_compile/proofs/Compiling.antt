@@ -4,7 +4,7 @@ use Rattle.std.proofs.lemmas.List.{length-map}
 use Rattle.mk_field.specs.Field.{size}
 use Rattle.mk_ast.specs.declared.tree.Program.{Program}
 use Rattle.mk_ast.specs.Regular.{IsRegular}
-use Rattle.mk_code.specs.Listing.{Listing}
+use Rattle.mk_code.specs.Listing.{Listing, HasElementImages}
 use Rattle.mk_ssa.specs.Operators.{Operator}
 use Rattle.mk_ssa.specs.Values.{Values, IsValues}
 use Rattle.mk_ssa.specs.Denoted.{denoted}
@@ -18,7 +18,7 @@ use Rattle.mk_simplify.specs.Simplified.{IsSimplified, count_operators, is_const
 use Rattle.mk_rules.specs.Claimed.{Claimed}
 use Rattle.mk_rules.specs.Wired.{Wired}
 use Rattle.mk_rules.specs.Accepts.{IsAccepted}
-use Rattle.mk_rules.specs.Privacy.{HasElementImages}
+use Rattle.mk_rules.specs.Shape.{shape_of}
 use Rattle.mk_place.specs.Uses.{plain}
 use Rattle.mk_place.specs.Layout.{renamed}
 use Rattle.mk_place.specs.Placed.{Placed}
@@ -34,6 +34,7 @@ module _ (p : Program) (order : ℕ) (u s : Values) (cert : Claimed) (is : u ≡
   -- it is few values
   module _ (counts : HasFewValues u order) (operators : (test : Operator → Bool) → count_operators test s ≤ count_operators test u)
       (constants : count_operators is_constant s ≤ size s.field) where
+    -- the simplified values are few
     few : AreFew s.values (order + 1)
     few = simplified-few u s order counts operators constants
 
@@ -63,6 +64,7 @@ module _ (p : Program) (order : ℕ) (u s : Values) (cert : Claimed) (is : u ≡
 
   -- the claims stand for what the outputs do
   module _ (fit : IsValues s) (wired : Wired (plain s) cert.blocks) (meaning : (publics secrets : List ℕ) → denoted s publics secrets ≡ denoted u publics secrets) where
+    -- the claims stand for what the program is unrolled to
     cert-meaning : (publics secrets : List ℕ) → map (stands_for (plain s) cert.blocks publics secrets) cert.claims ≡ denoted (unrolled p) publics secrets
     cert-meaning publics secrets =
         ap (λ (x : Claimed). map (stands_for (plain s) x.blocks publics secrets) x.claims) placed.laid
@@ -85,5 +87,5 @@ module _ (p : Program) (order : ℕ) (u s : Values) (cert : Claimed) (is : u ≡
           outputs = accepted.outputs;
           count = claims-count ∙ ap (λ (v : Values). length v.outs) is ∙ unrolled_outs_count p regular typed ends;
           meaning = λ publics secrets.
-              ap (λ (x : Listing). map (stands_for x cert.blocks publics secrets) cert.claims) made ∙ cert-meaning publics secrets;
+              ap (λ (x : Listing). map (stands_for (shape_of x) cert.blocks publics secrets) cert.claims) made ∙ cert-meaning publics secrets;
         })

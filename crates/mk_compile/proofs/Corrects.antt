@@ -24,14 +24,14 @@ use Rattle.mk_unroll.specs.Unrolled.{unrolled}
 use Rattle.mk_unroll.proofs.Unrolls.{unrolled_result}
 use Rattle.mk_gadget.specs.Product.{product_gadget}
 use Rattle.mk_gadget.specs.Refresh.{refresh_gadget}
+use Rattle.mk_rules.specs.Shape.{shape_of}
 use Rattle.mk_rules.specs.Claimed.{Claimed}
 use Rattle.mk_rules.specs.Tiles.{value_number}
 use Rattle.mk_rules.specs.Wired.{IsSharedThere}
 use Rattle.mk_rules.proofs.Claims.{length-parted}
 use Rattle.mk_rules.proofs.Laid.{bank-long}
 use Rattle.mk_rules.proofs.BuiltIn.{built_in-given}
-use Rattle.mk_compile.specs.Emitting.{built_banks}
-use Rattle.mk_compile.specs.RightValues.{stands_for}
+use Rattle.mk_compile.specs.RightValues.{built_banks, stands_for}
 use Rattle.mk_compile.specs.Correct.{Correct}
 use Rattle.mk_compile.specs.MadeFor.{IsMadeFor}
 use Rattle.mk_compile.proofs.Whole.{claims-right}
@@ -73,7 +73,7 @@ module _ (p : Program) (order : ℕ) (code : Listing) (cert : Claimed) (regular 
       let outs : List ℕ = observation code.outs (trace code publics shares tape) in
       let right : decoded (code.order + 1) (length cert.claims) outs ≡ denoted (unrolled p) publics secrets =
       claims-right code cert.blocks made.images made.wired made.tiles cert.claims made.outputs publics shares tape here there random
-      ∙ ap (λ (xs : List ℕ). map (stands_for code cert.blocks publics xs) cert.claims) same
+      ∙ ap (λ (xs : List ℕ). map (stands_for (shape_of code) cert.blocks publics xs) cert.claims) same
       ∙ made.meaning publics secrets in
       unrolled_result p publics secrets regular typed ends publics_are.count (length-decoded (order + 1) (secrets_of p) shares)
       (All-below (size p.field) publics publics_are.below)
@@ -86,16 +86,16 @@ module _ (p : Program) (order : ℕ) (code : Listing) (cert : Claimed) (regular 
   pub made-correct : Correct p order code
   made-correct =
       let n : ℕ = code.order + 1 in
-      let bank : Operand → List ℕ = λ v. slice_index_or (built_banks code cert.blocks) (value_number code v) [] in
+      let bank : Operand → List ℕ = λ v. slice_index_or (built_banks (shape_of code) cert.blocks) (value_number (shape_of code) v) [] in
       record {
         field = made.field;
         same_order = made.same_order;
         secrets = made.secrets;
         publics = made.publics;
         outputs = ap length made.outputs.outs
-            ∙ length-parted n bank (IsSharedThere code cert.blocks) cert.claims
-            (recursion_from_All (IsSharedThere code cert.blocks) cert.claims made.outputs.there)
-            (λ v there. bank-long code (product_gadget n) (refresh_gadget n) cert.blocks v made.wired (built_in-given code) there)
+            ∙ length-parted n bank (IsSharedThere (shape_of code) cert.blocks) cert.claims
+            (recursion_from_All (IsSharedThere (shape_of code) cert.blocks) cert.claims made.outputs.there)
+            (λ v there. bank-long (shape_of code) (product_gadget n) (refresh_gadget n) cert.blocks v made.wired (built_in-given (shape_of code)) there)
             ∙ ap (λ (k : ℕ). k * n) made.count ∙ ap (λ (t : ℕ). outputs_of p * (t + 1)) made.same_order;
         values = values-correct;
       }

@@ -7,7 +7,6 @@ use Rattle.std.proofs.lemmas.List.FromFn.{length-map-range_with_len}
 use Rattle.std.proofs.lemmas.List.Elements.{All-from_recursion, recursion_from_All}
 use Rattle.mk_code.specs.declared.instr.Instr.{Instr}
 use Rattle.mk_code.specs.Draft.{Draft, draft_len}
-use Rattle.mk_code.specs.Listing.{Listing}
 use Rattle.mk_code.specs.Counting.{AllBelow}
 use Rattle.mk_ssa.specs.declared.Operand.{Operand}
 use Rattle.mk_ssa.specs.declared.Operand.TheVariants as operand
@@ -18,32 +17,29 @@ use Rattle.mk_gadget.specs.Gadget.{Gadget, moved, placement, placed, placed_outs
 use Rattle.mk_gadget.specs.Emitted.{Emitted}
 use Rattle.mk_gadget.specs.Template.{built_in}
 use Rattle.std.proofs.lemmas.List.Concat.{flat_map-append}
+use Rattle.mk_rules.specs.Shape.{Shape}
 use Rattle.mk_rules.specs.Tiles.{value_number, input_banks, first_place, reads, laid, laid_banks}
 use Rattle.mk_compile.proofs.Banks.{within-some}
 use Rattle.mk_rules.specs.Wired.{IsSharedThere, IsPublicThere, IsWired}
-use Rattle.mk_rules.proofs.Operators.{Each, wired-operands}
+use Rattle.mk_rules.proofs.Operators.{wired-operands}
 use Rattle.mk_rules.proofs.Standing.{bank}
 use Rattle.mk_rules.specs.Wired.{Wired, AllWired}
-use Rattle.mk_rules.proofs.Places.{wired-at}
+use Rattle.mk_rules.proofs.Wired.{wired-at}
 use Rattle.std.proofs.lemmas.Option.{slice_get-get_or}
+use Rattle.mk_simplify.proofs.Trees.{AllByRecursion-weaker}
 use Rattle.mk_rules.proofs.Laid.{laid_to-more, banks_to-more}
 use Rattle.mk_rules.proofs.Front.{secret-bank, public-bank}
 use Rattle.mk_gadget.specs.Product.{product_gadget}
 use Rattle.mk_gadget.specs.Refresh.{refresh_gadget}
-use Rattle.mk_compile.specs.Emitting.{instrs_of, built_banks, blocks_len}
+use Rattle.mk_compile.specs.RightValues.{built_banks}
+use Rattle.mk_compile.specs.Emitting.{instrs_of, blocks_len}
 use Rattle.mk_compile.proofs.Right.{banks-all}
 use Rattle.mk_compile.proofs.Whole.{inputs-banked}
 use Rattle.mk_compile.specs.declared.places.Place.{Place}
 use Rattle.mk_compile.specs.declared.places.Place.TheVariants.{Public}
 use Rattle.mk_compile.specs.Places.{bank_at, is_public_at, bank_of, IsSharedAt, IsPublicAt, HasMap, HasOperands, IsElement, AreBefore, ArePlaced, places_read}
 
--- what holds of each holds of all
-each-all : (P Q : Operand → Type 0) (vs : List Operand) → ((v : Operand) → P v → Q v) → Each P vs → AllByRecursion Q vs
-unfolding Each
-each-all P Q [] holds each = tt
-each-all P Q (v ∷ vs) holds each = (holds v each.0, each-all P Q vs holds each.1)
-
-module _ {N : ℕ} (code : Listing) (order : code.order + 1 ≡ N) where
+module _ {N : ℕ} (shape : Shape) (order : shape.order + 1 ≡ N) where
   -- a block of a kind has a value of that kind
   kind-at : (before : List Op) (places : List (Place N)) (t : Bool) (k : ℕ) → map is_public_at places ≡ map is_public before
       → IsSomeAnd (slice_get before k) (λ op. is_public op ≡ t) → IsSomeAnd (slice_get places k) (λ p. is_public_at p ≡ t)
@@ -54,121 +50,121 @@ module _ {N : ℕ} (code : Listing) (order : code.order + 1 ≡ N) where
 
   -- a shared value that is there is among those that stand somewhere
   pub shared-placed : (before : List Op) (places : List (Place N)) (v : Operand) → map is_public_at places ≡ map is_public before
-      → IsSharedThere code before v → IsSharedAt code.secrets places v
+      → IsSharedThere shape before v → IsSharedAt shape.secrets places v
   shared-placed before places (operand.Secret k) same there = there
   shared-placed before places (operand.Public k) same there = absurd there
   shared-placed before places (operand.Block k) same there = kind-at before places false k same there
 
   -- a public one
   public-placed : (before : List Op) (places : List (Place N)) (v : Operand) → map is_public_at places ≡ map is_public before
-      → IsPublicThere code before v → IsPublicAt code.publics places v
+      → IsPublicThere shape before v → IsPublicAt shape.publics places v
   public-placed before places (operand.Secret k) same there = absurd there
   public-placed before places (operand.Public k) same there = there
   public-placed before places (operand.Block k) same there = kind-at before places true k same there
 
   -- the map of a wired operator is there
-  map-there : (before : List Op) (op : Op) → IsWired code before op → HasMap (length code.maps) op
+  map-there : (before : List Op) (op : Op) → IsWired shape before op → HasMap (length shape.maps) op
   map-there before (PubMap k arg) wired = wired.0
   map-there before (Map k arg) wired = wired.0
   map-there before _ wired = tt
 
   -- its constant is an element
-  pub constant-there : (before : List Op) (op : Op) → IsWired code before op → IsElement code.field op
+  pub constant-there : (before : List Op) (op : Op) → IsWired shape before op → IsElement shape.field op
   constant-there before (Const value) wired = wired
   constant-there before _ wired = tt
 
   -- the operands of a wired operator are among the values that stand somewhere
-  pub wired-placed : (before : List Op) (places : List (Place N)) (op : Op) → map is_public_at places ≡ map is_public before → IsWired code before op
-      → HasOperands code.secrets code.publics (length code.maps) places op
+  pub wired-placed : (before : List Op) (places : List (Place N)) (op : Op) → map is_public_at places ≡ map is_public before → IsWired shape before op
+      → HasOperands shape.secrets shape.publics (length shape.maps) places op
   wired-placed before places op same wired =
-      let both : Each (IsSharedThere code before) (shared_operands op) × Each (IsPublicThere code before) (public_operands op) = wired-operands code before op wired in
+      let both : AllByRecursion (IsSharedThere shape before) (shared_operands op) × AllByRecursion (IsPublicThere shape before) (public_operands op) = wired-operands shape before op wired in
       record {
-        shared = All-from_recursion (IsSharedAt code.secrets places) (shared_operands op)
-            (each-all (IsSharedThere code before) (IsSharedAt code.secrets places) (shared_operands op) (λ v there. shared-placed before places v same there) both.0);
-        public = All-from_recursion (IsPublicAt code.publics places) (public_operands op)
-            (each-all (IsPublicThere code before) (IsPublicAt code.publics places) (public_operands op) (λ v there. public-placed before places v same there) both.1);
+        shared = All-from_recursion (IsSharedAt shape.secrets places) (shared_operands op)
+            (AllByRecursion-weaker (IsSharedThere shape before) (IsSharedAt shape.secrets places) (shared_operands op) (λ v there. shared-placed before places v same there) both.0);
+        public = All-from_recursion (IsPublicAt shape.publics places) (public_operands op)
+            (AllByRecursion-weaker (IsPublicThere shape before) (IsPublicAt shape.publics places) (public_operands op) (λ v there. public-placed before places v same there) both.1);
         map = map-there before op wired;
       }
 
   -- the banks of inputs, and those of the values of blocks
   abbrev all_banks : List (Place N) → List (List ℕ)
-  all_banks places = input_banks code ++ map bank_at places
+  all_banks places = input_banks shape ++ map bank_at places
 
   -- how many inputs have banks
-  inputs-count : length (input_banks code) ≡ code.secrets + code.publics
+  inputs-count : length (input_banks shape) ≡ shape.secrets + shape.publics
   inputs-count =
-      let n : ℕ = code.order + 1 in
+      let n : ℕ = shape.order + 1 in
       omega (
         arith,
-        length-append (map (λ k. range_with_len (k * n) n) (range_with_len 0 code.secrets)) (map (λ k. (code.secrets * n + k) ∷ []) (range_with_len 0 code.publics)),
-        length-map-range_with_len (λ k. range_with_len (k * n) n) 0 code.secrets,
-        length-map-range_with_len (λ k. (code.secrets * n + k) ∷ []) 0 code.publics,
+        length-append (map (λ k. range_with_len (k * n) n) (range_with_len 0 shape.secrets)) (map (λ k. (shape.secrets * n + k) ∷ []) (range_with_len 0 shape.publics)),
+        length-map-range_with_len (λ k. range_with_len (k * n) n) 0 shape.secrets,
+        length-map-range_with_len (λ k. (shape.secrets * n + k) ∷ []) 0 shape.publics,
       )
 
   -- the bank of the value of a block
-  block-bank : (places : List (Place N)) (k : ℕ) (none : Place N) → k < length places → bank_at (slice_index_or places k none) ≡ bank (all_banks places) (code.secrets + code.publics + k)
+  block-bank : (places : List (Place N)) (k : ℕ) (none : Place N) → k < length places → bank_at (slice_index_or places k none) ≡ bank (all_banks places) (shape.secrets + shape.publics + k)
   block-bank places k none below =
-      let back : code.secrets + code.publics + k - (code.secrets + code.publics) ≡ k = omega arith in
-      sym (get_or-append_right (input_banks code) (map bank_at places) (code.secrets + code.publics) (code.secrets + code.publics + k) [] inputs-count (omega arith)
+      let back : shape.secrets + shape.publics + k - (shape.secrets + shape.publics) ≡ k = omega arith in
+      sym (get_or-append_right (input_banks shape) (map bank_at places) (shape.secrets + shape.publics) (shape.secrets + shape.publics + k) [] inputs-count (omega arith)
       ∙ ap (λ (i : ℕ). slice_index_or (map bank_at places) i []) back
       ∙ get_or-map bank_at places k none [] below)
 
   -- the bank of a shared value
-  pub shared-bank : (places : List (Place N)) (v : Operand) → IsSharedAt code.secrets places v
-      → bank_of code.secrets places v ≡ bank (all_banks places) (value_number code v)
+  pub shared-bank : (places : List (Place N)) (v : Operand) → IsSharedAt shape.secrets places v
+      → bank_of shape.secrets places v ≡ bank (all_banks places) (value_number shape v)
   shared-bank places (operand.Secret k) there =
       ap (λ (n : ℕ). range_with_len (k * n) n) (sym order)
-      ∙ sym (get_or_append_left (input_banks code) (map bank_at places) [] k (omega (arith, there, inputs-count)) ∙ secret-bank code k there)
+      ∙ sym (get_or_append_left (input_banks shape) (map bank_at places) [] k (omega (arith, there, inputs-count)) ∙ secret-bank shape k there)
   shared-bank places (operand.Public k) there = absurd there
   shared-bank places (operand.Block k) there = block-bank places k (Public 0) (within-some places k (λ p. is_public_at p ≡ false) there)
 
   -- of a public one
-  public-bank-of : (places : List (Place N)) (v : Operand) → IsPublicAt code.publics places v
-      → bank_of code.secrets places v ≡ bank (all_banks places) (value_number code v)
+  public-bank-of : (places : List (Place N)) (v : Operand) → IsPublicAt shape.publics places v
+      → bank_of shape.secrets places v ≡ bank (all_banks places) (value_number shape v)
   public-bank-of places (operand.Secret k) there = absurd there
   public-bank-of places (operand.Public k) there =
-      let back : code.secrets + k - code.secrets ≡ k = omega arith in
-      ap (λ (n : ℕ). (code.secrets * n + k) ∷ []) (sym order)
-      ∙ ap (λ (i : ℕ). (code.secrets * (code.order + 1) + i) ∷ []) (sym back)
-      ∙ sym (get_or_append_left (input_banks code) (map bank_at places) [] (code.secrets + k) (omega (arith, there, inputs-count))
-      ∙ public-bank code (code.secrets + k) (omega arith) (omega (arith, there)))
+      let back : shape.secrets + k - shape.secrets ≡ k = omega arith in
+      ap (λ (n : ℕ). (shape.secrets * n + k) ∷ []) (sym order)
+      ∙ ap (λ (i : ℕ). (shape.secrets * (shape.order + 1) + i) ∷ []) (sym back)
+      ∙ sym (get_or_append_left (input_banks shape) (map bank_at places) [] (shape.secrets + k) (omega (arith, there, inputs-count))
+      ∙ public-bank shape (shape.secrets + k) (omega arith) (omega (arith, there)))
   public-bank-of places (operand.Block k) there = block-bank places k (Public 0) (within-some places k (λ p. is_public_at p ≡ true) there)
 
   -- the banks of some operands
   pub banks-same : (P : Operand → Type 0) (places : List (Place N)) (vs : List Operand)
-      → ((v : Operand) → P v → bank_of code.secrets places v ≡ bank (all_banks places) (value_number code v)) → AllByRecursion P vs
-      → flat_map (bank_of code.secrets places) vs ≡ flat_map (λ v. slice_index_or (all_banks places) (value_number code v) []) vs
+      → ((v : Operand) → P v → bank_of shape.secrets places v ≡ bank (all_banks places) (value_number shape v)) → AllByRecursion P vs
+      → flat_map (bank_of shape.secrets places) vs ≡ flat_map (λ v. slice_index_or (all_banks places) (value_number shape v) []) vs
   banks-same P places [] same all = refl
   banks-same P places (v ∷ vs) same all =
-      ap (λ (l : List ℕ). l ++ flat_map (bank_of code.secrets places) vs) (same v all.0)
-      ∙ ap (λ (l : List ℕ). bank (all_banks places) (value_number code v) ++ l) (banks-same P places vs same all.1)
+      ap (λ (l : List ℕ). l ++ flat_map (bank_of shape.secrets places) vs) (same v all.0)
+      ∙ ap (λ (l : List ℕ). bank (all_banks places) (value_number shape v) ++ l) (banks-same P places vs same all.1)
 
   -- an operator reads these places
-  pub reads-placed : (places : List (Place N)) (op : Op) → HasOperands code.secrets code.publics (length code.maps) places op
-      → places_read code.secrets places op ≡ reads code (all_banks places) op
+  pub reads-placed : (places : List (Place N)) (op : Op) → HasOperands shape.secrets shape.publics (length shape.maps) places op
+      → places_read shape.secrets places op ≡ reads shape (all_banks places) op
   reads-placed places op there =
-      let at : Operand → List ℕ = λ v. slice_index_or (all_banks places) (value_number code v) [] in
-      let of : Operand → List ℕ = bank_of code.secrets places in
+      let at : Operand → List ℕ = λ v. slice_index_or (all_banks places) (value_number shape v) [] in
+      let of : Operand → List ℕ = bank_of shape.secrets places in
       flat_map-append of (shared_operands op) (public_operands op)
       ∙ ap (λ (l : List ℕ). l ++ flat_map of (public_operands op))
-      (banks-same (IsSharedAt code.secrets places) places (shared_operands op) (shared-bank places) (recursion_from_All (IsSharedAt code.secrets places) (shared_operands op) there.shared))
+      (banks-same (IsSharedAt shape.secrets places) places (shared_operands op) (shared-bank places) (recursion_from_All (IsSharedAt shape.secrets places) (shared_operands op) there.shared))
       ∙ ap (λ (l : List ℕ). flat_map at (shared_operands op) ++ l)
-      (banks-same (IsPublicAt code.publics places) places (public_operands op) (public-bank-of places) (recursion_from_All (IsPublicAt code.publics places) (public_operands op) there.public))
+      (banks-same (IsPublicAt shape.publics places) places (public_operands op) (public-bank-of places) (recursion_from_All (IsPublicAt shape.publics places) (public_operands op) there.public))
       ∙ sym (flat_map-append at (shared_operands op) (public_operands op))
 
   -- how many instructions the blocks have
   pub laid-len : (banks : List (List ℕ)) (base : ℕ) (ops : List Op)
-      → length (laid code (product_gadget (code.order + 1)) (refresh_gadget (code.order + 1)) banks base ops) ≡ blocks_len N ops
+      → length (laid shape (product_gadget (shape.order + 1)) (refresh_gadget (shape.order + 1)) banks base ops) ≡ blocks_len N ops
   unfolding laid
   laid-len banks base [] = refl
   laid-len banks base (op ∷ ops) =
-      let gadget : Gadget = built_in (code.order + 1) op in
-      let at : List ℕ = reads code banks op in
+      let gadget : Gadget = built_in (shape.order + 1) op in
+      let at : List ℕ = reads shape banks op in
       let next : List (List ℕ) = banks ++ placed_outs at base gadget ∷ [] in
       let size : length gadget.instrs ≡ length (built_in N op).instrs = ap (λ (n : ℕ). length (built_in n op).instrs) order in
       omega (
         arith,
-        length-append (placed at base gadget) (laid code (product_gadget (code.order + 1)) (refresh_gadget (code.order + 1)) next (base + length gadget.instrs) ops),
+        length-append (placed at base gadget) (laid shape (product_gadget (shape.order + 1)) (refresh_gadget (shape.order + 1)) next (base + length gadget.instrs) ops),
         length-map gadget.instrs (moved (placement at base)),
         laid-len next (base + length gadget.instrs) ops,
         size,
@@ -177,47 +173,47 @@ module _ {N : ℕ} (code : Listing) (order : code.order + 1 ≡ N) where
 
   module _ (blocks : List Op) where
     -- the values of blocks stand before what is emitted next
-    pub before-placed : (instrs : List Instr) (places : List (Place N)) → Wired code blocks → ArePlaced code blocks instrs places
-        → AreBefore (first_place code + length instrs) places
+    pub before-placed : (instrs : List Instr) (places : List (Place N)) → Wired shape blocks → ArePlaced shape blocks instrs places
+        → AreBefore (first_place shape + length instrs) places
     before-placed instrs places wired so k none below =
-        let all = banks-all code [] blocks (first_place code) (input_banks code) wired (inputs-banked code blocks) in
+        let all = banks-all shape [] blocks (first_place shape) (input_banks shape) wired (inputs-banked shape blocks) in
         let count : length places ≡ length blocks = sym (length-map places is_public_at) ∙ ap length so.kinds ∙ length-map blocks is_public in
-        let at : bank_at (slice_index_or places k none) ≡ bank (built_banks code blocks) (code.secrets + code.publics + k) =
-        block-bank places k none below ∙ ap (λ (banks : List (List ℕ)). bank banks (code.secrets + code.publics + k)) so.banks in
-        subst (λ (end : ℕ). AllBelow (first_place code + end) (bank_at (slice_index_or places k none))) (ap length (sym so.laid))
-        (subst (AllBelow (first_place code + length (instrs_of code blocks))) (sym at) (all.below (code.secrets + code.publics + k) (omega (arith, below, count))))
+        let at : bank_at (slice_index_or places k none) ≡ bank (built_banks shape blocks) (shape.secrets + shape.publics + k) =
+        block-bank places k none below ∙ ap (λ (banks : List (List ℕ)). bank banks (shape.secrets + shape.publics + k)) so.banks in
+        subst (λ (end : ℕ). AllBelow (first_place shape + end) (bank_at (slice_index_or places k none))) (ap length (sym so.laid))
+        (subst (AllBelow (first_place shape + length (instrs_of shape blocks))) (sym at) (all.below (shape.secrets + shape.publics + k) (omega (arith, below, count))))
 
     -- one block more is placed
     pub placed-more : (k : ℕ) (none op : Op) (d new : Draft) (places : List (Place N)) (place : Place N) → k < length blocks → get_or blocks k none ≡ op
-        → draft_len d ≡ first_place code + length d.instrs → Emitted d new (places_read code.secrets places op) (built_in N op) (bank_at place)
-        → is_public_at place ≡ is_public op → HasOperands code.secrets code.publics (length code.maps) places op
-        → ArePlaced code (take k blocks) d.instrs places → ArePlaced code (take (k + 1) blocks) new.instrs (places ++ place ∷ [])
+        → draft_len d ≡ first_place shape + length d.instrs → Emitted d new (places_read shape.secrets places op) (built_in N op) (bank_at place)
+        → is_public_at place ≡ is_public op → HasOperands shape.secrets shape.publics (length shape.maps) places op
+        → ArePlaced shape (take k blocks) d.instrs places → ArePlaced shape (take (k + 1) blocks) new.instrs (places ++ place ∷ [])
     placed-more k none op d new places place below is at emitted kind there so =
-        let product : Gadget = product_gadget (code.order + 1) in
-        let refresh : Gadget = refresh_gadget (code.order + 1) in
-        let to : List Instr = instrs_of code (take k blocks) in
-        let banks : List (List ℕ) = built_banks code (take k blocks) in
-        let from : places_read code.secrets places op ≡ reads code banks op =
-        reads-placed places op there ∙ ap (λ (bs : List (List ℕ)). reads code bs op) so.banks in
-        let base : draft_len d ≡ first_place code + length to = at ∙ ap (λ (is : List Instr). first_place code + length is) so.laid in
+        let product : Gadget = product_gadget (shape.order + 1) in
+        let refresh : Gadget = refresh_gadget (shape.order + 1) in
+        let to : List Instr = instrs_of shape (take k blocks) in
+        let banks : List (List ℕ) = built_banks shape (take k blocks) in
+        let from : places_read shape.secrets places op ≡ reads shape banks op =
+        reads-placed places op there ∙ ap (λ (bs : List (List ℕ)). reads shape bs op) so.banks in
+        let base : draft_len d ≡ first_place shape + length to = at ∙ ap (λ (is : List Instr). first_place shape + length is) so.laid in
         let more : take (k + 1) blocks ≡ take k blocks ++ op ∷ [] = take_more blocks k none below ∙ ap (λ (o : Op). take k blocks ++ o ∷ []) is in
         record {
           laid = ap (λ (e : Draft). e.instrs) emitted.code
               ∙ ap (λ (ps : List ℕ). d.instrs ++ placed ps (draft_len d) (built_in N op)) from
-              ∙ ap (λ (b : ℕ). d.instrs ++ placed (reads code banks op) b (built_in N op)) base
-              ∙ ap (λ (is : List Instr). is ++ placed (reads code banks op) (first_place code + length to) (built_in N op)) so.laid
-              ∙ ap (λ (n : ℕ). to ++ placed (reads code banks op) (first_place code + length to) (built_in n op)) (sym order)
-              ∙ ap (λ (o : Op). to ++ placed (reads code banks o) (first_place code + length to) (built_in (code.order + 1) o)) (sym is)
-              ∙ sym (laid_to-more code product refresh blocks k none below);
-          banks = ap (λ (bs : List (List ℕ)). input_banks code ++ bs) (map-append bank_at places (place ∷ []))
-              ∙ sym (append_assoc (input_banks code) (map bank_at places) (bank_at place ∷ []))
+              ∙ ap (λ (b : ℕ). d.instrs ++ placed (reads shape banks op) b (built_in N op)) base
+              ∙ ap (λ (is : List Instr). is ++ placed (reads shape banks op) (first_place shape + length to) (built_in N op)) so.laid
+              ∙ ap (λ (n : ℕ). to ++ placed (reads shape banks op) (first_place shape + length to) (built_in n op)) (sym order)
+              ∙ ap (λ (o : Op). to ++ placed (reads shape banks o) (first_place shape + length to) (built_in (shape.order + 1) o)) (sym is)
+              ∙ sym (laid_to-more shape product refresh blocks k none below);
+          banks = ap (λ (bs : List (List ℕ)). input_banks shape ++ bs) (map-append bank_at places (place ∷ []))
+              ∙ sym (append_assoc (input_banks shape) (map bank_at places) (bank_at place ∷ []))
               ∙ ap (λ (bs : List (List ℕ)). bs ++ bank_at place ∷ []) so.banks
               ∙ ap (λ (b : List ℕ). banks ++ b ∷ []) emitted.outs
               ∙ ap (λ (ps : List ℕ). banks ++ placed_outs ps (draft_len d) (built_in N op) ∷ []) from
-              ∙ ap (λ (b : ℕ). banks ++ placed_outs (reads code banks op) b (built_in N op) ∷ []) base
-              ∙ ap (λ (n : ℕ). banks ++ placed_outs (reads code banks op) (first_place code + length to) (built_in n op) ∷ []) (sym order)
-              ∙ ap (λ (o : Op). banks ++ placed_outs (reads code banks o) (first_place code + length to) (built_in (code.order + 1) o) ∷ []) (sym is)
-              ∙ sym (banks_to-more code product refresh blocks k none below);
+              ∙ ap (λ (b : ℕ). banks ++ placed_outs (reads shape banks op) b (built_in N op) ∷ []) base
+              ∙ ap (λ (n : ℕ). banks ++ placed_outs (reads shape banks op) (first_place shape + length to) (built_in n op) ∷ []) (sym order)
+              ∙ ap (λ (o : Op). banks ++ placed_outs (reads shape banks o) (first_place shape + length to) (built_in (shape.order + 1) o) ∷ []) (sym is)
+              ∙ sym (banks_to-more shape product refresh blocks k none below);
           kinds = map-append is_public_at places (place ∷ [])
               ∙ ap (λ (ts : List Bool). ts ++ is_public_at place ∷ []) so.kinds
               ∙ ap (λ (t : Bool). map is_public (take k blocks) ++ t ∷ []) kind
@@ -226,44 +222,44 @@ module _ {N : ℕ} (code : Listing) (order : code.order + 1 ≡ N) where
         }
 
     -- what is emitted next has room
-    pub room : (k : ℕ) (none op : Op) (instrs : List Instr) → k < length blocks → get_or blocks k none ≡ op → instrs ≡ instrs_of code (take k blocks)
+    pub room : (k : ℕ) (none op : Op) (instrs : List Instr) → k < length blocks → get_or blocks k none ≡ op → instrs ≡ instrs_of shape (take k blocks)
         → length instrs + length (built_in N op).instrs ≤ blocks_len N blocks
     room k none op instrs below is so =
         let f : Op → ℕ = λ o. length (built_in N o).instrs in
         let cut : sum_by f (drop k blocks) ≡ f op + sum_by f (drop (k + 1) blocks) =
         ap (sum_by f) (drop_more blocks k none below) ∙ sum_by-cons f (get_or blocks k none) (drop (k + 1) blocks) ∙ ap (λ (o : Op). f o + sum_by f (drop (k + 1) blocks)) is in
-        omega (arith, ap length so, laid-len (input_banks code) (first_place code) (take k blocks), sum_by-take-drop f blocks k, cut)
+        omega (arith, ap length so, laid-len (input_banks shape) (first_place shape) (take k blocks), sum_by-take-drop f blocks k, cut)
 
     -- all blocks are placed
-    pub placed-all : (k : ℕ) (instrs : List Instr) (places : List (Place N)) → length blocks ≤ k → ArePlaced code (take k blocks) instrs places
-        → ArePlaced code blocks instrs places
-    placed-all k instrs places past so = subst (λ (ops : List Op). ArePlaced code ops instrs places) (take_all k blocks past) so
+    pub placed-all : (k : ℕ) (instrs : List Instr) (places : List (Place N)) → length blocks ≤ k → ArePlaced shape (take k blocks) instrs places
+        → ArePlaced shape blocks instrs places
+    placed-all k instrs places past so = subst (λ (ops : List Op). ArePlaced shape ops instrs places) (take_all k blocks past) so
 
     -- the next block is wired behind those before
-    pub wired-next : (k : ℕ) (none : Op) → k < length blocks → Wired code blocks → IsWired code (take k blocks) (get_or blocks k none)
-    wired-next k none below wired = wired-at code [] blocks k (get_or blocks k none) wired (slice_get-get_or blocks k none below)
+    pub wired-next : (k : ℕ) (none : Op) → k < length blocks → Wired shape blocks → IsWired shape (take k blocks) (get_or blocks k none)
+    wired-next k none below wired = wired-at shape [] blocks k (get_or blocks k none) wired (slice_get-get_or blocks k none below)
 
     -- its operands are among the values that stand somewhere
-    pub operands-next : (k : ℕ) (none : Op) (secrets publics maps : ℕ) (instrs : List Instr) (places : List (Place N)) → k < length blocks → Wired code blocks
-        → secrets ≡ code.secrets → publics ≡ code.publics → maps ≡ length code.maps → ArePlaced code (take k blocks) instrs places
+    pub operands-next : (k : ℕ) (none : Op) (secrets publics maps : ℕ) (instrs : List Instr) (places : List (Place N)) → k < length blocks → Wired shape blocks
+        → secrets ≡ shape.secrets → publics ≡ shape.publics → maps ≡ length shape.maps → ArePlaced shape (take k blocks) instrs places
         → HasOperands secrets publics maps places (get_or blocks k none)
     operands-next k none secrets publics maps instrs places below wired first second third so =
         subst (λ (s : ℕ). HasOperands s publics maps places (get_or blocks k none)) (sym first)
-        (subst (λ (p : ℕ). HasOperands code.secrets p maps places (get_or blocks k none)) (sym second)
-        (subst (λ (m : ℕ). HasOperands code.secrets code.publics m places (get_or blocks k none)) (sym third)
+        (subst (λ (p : ℕ). HasOperands shape.secrets p maps places (get_or blocks k none)) (sym second)
+        (subst (λ (m : ℕ). HasOperands shape.secrets shape.publics m places (get_or blocks k none)) (sym third)
         (wired-placed (take k blocks) places (get_or blocks k none) so.kinds (wired-next k none below wired))))
 
   -- no block is placed
-  pub placed-none : (instrs : List Instr) (places : List (Place N)) → instrs ≡ [] → places ≡ [] → ArePlaced code [] instrs places
+  pub placed-none : (instrs : List Instr) (places : List (Place N)) → instrs ≡ [] → places ≡ [] → ArePlaced shape [] instrs places
   unfolding laid laid_banks
   placed-none instrs places first second = record {
     laid = first;
-    banks = ap (λ (ps : List (Place N)). input_banks code ++ map bank_at ps) second ∙ append-nil (input_banks code);
+    banks = ap (λ (ps : List (Place N)). input_banks shape ++ map bank_at ps) second ∙ append-nil (input_banks shape);
     kinds = ap (map is_public_at) second;
   }
 
   -- the first of wired blocks are wired
-  pub wired-front : (before blocks : List Op) (k : ℕ) → AllWired code before blocks → AllWired code before (take k blocks)
+  pub wired-front : (before blocks : List Op) (k : ℕ) → AllWired shape before blocks → AllWired shape before (take k blocks)
   wired-front before blocks zero wired = tt
   wired-front before [] (suc k) wired = tt
   wired-front before (op ∷ ops) (suc k) wired = (wired.0, wired-front (before ++ op ∷ []) ops k wired.1)

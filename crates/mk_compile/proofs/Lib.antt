@@ -5,7 +5,6 @@ mod Emitted
 mod Gives
 mod Sharings
 mod Right
-mod Recoded
 mod Whole
 mod Wires
 mod Meanings

@@ -4,7 +4,7 @@ use Rattle.std.specs.List.{AllByRecursion}
 use Rattle.std.proofs.lemmas.Bool.{cases_Bool, cond-true, cond-false}
 use Rattle.std.proofs.lemmas.List.Elements.{recursion_from_All}
 use Rattle.std.proofs.lemmas.Option.{slice_get_within, slice_get-get_or, get_or_from_slice_get}
-use Rattle.mk_code.specs.Listing.{Listing}
+use Rattle.mk_simplify.proofs.Trees.{AllByRecursion-weaker}
 use Rattle.mk_ssa.specs.declared.Op.{Op}
 use Rattle.mk_ssa.specs.declared.Op.TheVariants.{Const, PubAdd, PubMul, PubSq, PubMap, Lift, Add, AddPub, Scale, Sq, Map, Mul, Refresh}
 use Rattle.mk_ssa.specs.declared.Operand.{Operand}
@@ -15,24 +15,25 @@ use Rattle.mk_ssa.specs.Values as ssa
 use Rattle.mk_ssa.specs.Denoted.{value_by, value_of, in_order, denoted}
 use Rattle.mk_ssa.proofs.Lists.{IsSomeAnd-value, slice_get-front}
 use Rattle.mk_ssa.proofs.InOrder.{in_order-at, in_order-take}
+use Rattle.mk_rules.specs.Shape.{Shape}
 use Rattle.mk_rules.specs.Wired.{IsSharedThere, IsWired, Wired}
-use Rattle.mk_rules.proofs.Places.{wired-at}
+use Rattle.mk_rules.proofs.Wired.{wired-at}
 use Rattle.mk_place.specs.Uses.{plain}
 use Rattle.mk_place.specs.Layout.{Marks, own_block, refresh_block, renamed, refreshed, with_operands, blocks_from, laid_out}
 use Rattle.mk_place.proofs.Blocks.{own-there, refresh-there}
 use Rattle.mk_place.proofs.Wiring.{wired-value}
+use Rattle.mk_place.proofs.Fitting.{out-there}
 use Rattle.mk_compile.specs.RightValues.{stands_for}
-use Rattle.mk_compile.proofs.Codes.{all-more}
 use Rattle.mk_compile.proofs.Right.{IsThere, value_by-same}
 
 -- each operator is wired behind those before it
-abbrev AreWired : Listing → List Op → Type 0
-AreWired code ops = (k : ℕ) (op : Op) → slice_get ops k ≡ Some op → IsWired code (take k ops) op
+abbrev AreWired : Shape → List Op → Type 0
+AreWired shape ops = (k : ℕ) (op : Op) → slice_get ops k ≡ Some op → IsWired shape (take k ops) op
 
-module _ (code : Listing) (publics secrets : List ℕ) where
+module _ (shape : Shape) (publics secrets : List ℕ) where
   -- a value stands for the same among those before and among all
-  early-same : (ops : List Op) (k : ℕ) → k ≤ length ops → (v : Operand) → IsThere code (take k ops) v
-      → stands_for code (take k ops) publics secrets v ≡ stands_for code ops publics secrets v
+  early-same : (ops : List Op) (k : ℕ) → k ≤ length ops → (v : Operand) → IsThere shape (take k ops) v
+      → stands_for shape (take k ops) publics secrets v ≡ stands_for shape ops publics secrets v
   early-same ops k within (operand.Secret j) there = refl
   early-same ops k within (operand.Public j) there = refl
   early-same ops k within (operand.Block j) there =
@@ -44,29 +45,29 @@ module _ (code : Listing) (publics secrets : List ℕ) where
             let at = IsSomeAnd-value (slice_get (take k ops) j) (λ op. is_public op ≡ true) public in
             (slice_get-front ops k j at.0 at.1).0
       ] in
-      sym (in_order-take (value_of code.field code.maps publics secrets) ops k j 0 below within)
+      sym (in_order-take (value_of shape.field shape.maps publics secrets) ops k j 0 below within)
 
   -- each value is that of its operator over the values of all
-  settled : (ops : List Op) → AreWired code ops → (k : ℕ) (op : Op) → slice_get ops k ≡ Some op
-      → stands_for code ops publics secrets (operand.Block k) ≡ value_by code.field code.maps (stands_for code ops publics secrets) op
+  settled : (ops : List Op) → AreWired shape ops → (k : ℕ) (op : Op) → slice_get ops k ≡ Some op
+      → stands_for shape ops publics secrets (operand.Block k) ≡ value_by shape.field shape.maps (stands_for shape ops publics secrets) op
   unfolding in_order
   settled ops wired k op there =
-      let next : List ℕ → Op → ℕ = value_of code.field code.maps publics secrets in
+      let next : List ℕ → Op → ℕ = value_of shape.field shape.maps publics secrets in
       let within : k < length ops = slice_get_within ops k op there in
       let same : k ≡ 0 + k = omega arith in
       ap (λ (n : ℕ). get_or (in_order next [] ops) n 0) same
       ∙ in_order-at next [] ops k op 0 there
-      ∙ value_by-same code (take k ops) (stands_for code (take k ops) publics secrets) (stands_for code ops publics secrets) op
+      ∙ value_by-same shape (take k ops) (stands_for shape (take k ops) publics secrets) (stands_for shape ops publics secrets) op
       (early-same ops k (omega (arith, within))) (wired k op there)
 
-  module _ (marks : Marks) (values : List Op) (values_wired : AreWired code values) (blocks_wired : AreWired code (blocks_from marks 0 values)) where
+  module _ (marks : Marks) (values : List Op) (values_wired : AreWired shape values) (blocks_wired : AreWired shape (blocks_from marks 0 values)) where
     -- what an operand stands for among the values
     abbrev of_value : Operand → ℕ
-    of_value = stands_for code values publics secrets
+    of_value = stands_for shape values publics secrets
 
     -- and among the blocks
     abbrev of_block : Operand → ℕ
-    of_block = stands_for code (blocks_from marks 0 values) publics secrets
+    of_block = stands_for shape (blocks_from marks 0 values) publics secrets
 
     -- the own blocks of the first values stand for these
     abbrev AreOwn : ℕ → Type 0
@@ -74,7 +75,7 @@ module _ (code : Listing) (publics secrets : List ℕ) where
 
     module _ (k : ℕ) (own : AreOwn k) where
       -- an operand by its new number
-      renamed-same : (v : Operand) → IsThere code (take k values) v → of_block (renamed marks v) ≡ of_value v
+      renamed-same : (v : Operand) → IsThere shape (take k values) v → of_block (renamed marks v) ≡ of_value v
       renamed-same (operand.Secret j) there = refl
       renamed-same (operand.Public j) there = refl
       renamed-same (operand.Block j) there = elim there [
@@ -88,7 +89,7 @@ module _ (code : Listing) (publics secrets : List ℕ) where
 
       module _ (op : Op) (there : slice_get values k ≡ Some op) where
         -- a shared operand, or its refresh
-        fresh-same : (place : ℕ) (v : Operand) → slice_get (shared_operands op) place ≡ Some v → place < 2 → IsSharedThere code (take k values) v
+        fresh-same : (place : ℕ) (v : Operand) → slice_get (shared_operands op) place ≡ Some v → place < 2 → IsSharedThere shape (take k values) v
             → of_block (refreshed marks k place v) ≡ of_value v
         fresh-same place v at few held =
             let w : Operand = slice_index_or (shared_operands op) place (operand.Secret 0) in
@@ -106,8 +107,8 @@ module _ (code : Listing) (publics secrets : List ℕ) where
             ]
 
       -- an operator over the new numbers
-      laid-same : (op : Op) → slice_get values k ≡ Some op → IsWired code (take k values) op
-          → value_by code.field code.maps of_block (with_operands (refreshed marks k) (renamed marks) op) ≡ value_by code.field code.maps of_value op
+      laid-same : (op : Op) → slice_get values k ≡ Some op → IsWired shape (take k values) op
+          → value_by shape.field shape.maps of_block (with_operands (refreshed marks k) (renamed marks) op) ≡ value_by shape.field shape.maps of_value op
       laid-same (Const value) there wired = refl
       laid-same (PubAdd left right) there wired = rw (renamed-same left (inr wired.0), renamed-same right (inr wired.1)) refl
       laid-same (PubMul left right) there wired = rw (renamed-same left (inr wired.0), renamed-same right (inr wired.1)) refl
@@ -138,7 +139,7 @@ module _ (code : Listing) (publics secrets : List ℕ) where
         ∙ sym (settled values values_wired k op there)
 
     -- an output by its new number
-    claim-same : (v : Operand) → IsSharedThere code values v → of_block (renamed marks v) ≡ of_value v
+    claim-same : (v : Operand) → IsSharedThere shape values v → of_block (renamed marks v) ≡ of_value v
     claim-same (operand.Secret j) there = refl
     claim-same (operand.Public j) there = absurd there
     claim-same (operand.Block j) there =
@@ -146,15 +147,9 @@ module _ (code : Listing) (publics secrets : List ℕ) where
         own-same (length values) j (slice_get_within values j at.0 at.1) (slice_get_within values j at.0 at.1)
 
     -- so all outputs
-    claims-same : (outs : List Operand) → AllByRecursion (IsSharedThere code values) outs → map of_block (map (renamed marks) outs) ≡ map of_value outs
+    claims-same : (outs : List Operand) → AllByRecursion (IsSharedThere shape values) outs → map of_block (map (renamed marks) outs) ≡ map of_value outs
     claims-same [] all = refl
     claims-same (v ∷ vs) all = ap₂ (λ (a : ℕ) (as_ : List ℕ). a ∷ as_) (claim-same v all.0) (claims-same vs all.1)
-
--- an output is there in the one sense and in the other
-out-there : (s : Values) (v : Operand) → ssa.IsSharedThere (draft s) v → IsSharedThere (plain s) s.values v
-out-there s (operand.Secret k) there = there
-out-there s (operand.Public k) there = absurd there
-out-there s (operand.Block k) there = there
 
 -- the claims stand for what the outputs do
 pub laid-meaning : (s : Values) → IsValues s → (marks : Marks) → Wired (plain s) (laid_out marks s).blocks → (publics secrets : List ℕ)
@@ -162,5 +157,5 @@ pub laid-meaning : (s : Values) → IsValues s → (marks : Marks) → Wired (pl
 laid-meaning s fit marks wired publics secrets =
     claims-same (plain s) publics secrets marks s.values (λ k op there. wired-value s fit k op there)
     (λ k op there. wired-at (plain s) [] (blocks_from marks 0 s.values) k op wired there) s.outs
-    (all-more (ssa.IsSharedThere (draft s)) (IsSharedThere (plain s) s.values) s.outs (out-there s)
+    (AllByRecursion-weaker (ssa.IsSharedThere (draft s)) (IsSharedThere (plain s) s.values) s.outs (out-there s)
     (recursion_from_All (ssa.IsSharedThere (draft s)) s.outs fit.outs))

@@ -4,7 +4,7 @@ use Rattle.std.proofs.lemmas.List.{length-append, length-map, get_or_append_left
 use Rattle.mk_field.specs.Field.{size}
 use Rattle.mk_field.specs.Sharing.{field_sum}
 use Rattle.mk_code.specs.declared.instr.Instr.{Instr}
-use Rattle.mk_code.specs.Listing.{Listing}
+use Rattle.mk_code.specs.Listing.{AreElementMaps}
 use Rattle.mk_code.specs.Trace.{run, randoms}
 use Rattle.mk_code.specs.Counting.{AllBelow, Elements}
 use Rattle.mk_code.proofs.Totals.{AllBelow-drop}
@@ -21,9 +21,10 @@ use Rattle.mk_gadget.specs.Emitted.{shared_at}
 use Rattle.mk_gadget.specs.Product.{product_gadget}
 use Rattle.mk_gadget.specs.Refresh.{refresh_gadget}
 use Rattle.mk_gadget.specs.Template.{built_in}
+use Rattle.mk_rules.specs.Shape.{Shape}
 use Rattle.mk_rules.specs.Tiles.{value_number, reads, laid, laid_banks}
 use Rattle.mk_rules.specs.Wired.{IsSharedThere, IsPublicThere, IsWired, AllWired}
-use Rattle.mk_rules.proofs.Values.{AreElementMaps, placed-elements}
+use Rattle.mk_rules.proofs.Values.{placed-elements}
 use Rattle.mk_rules.proofs.Standing.{bank, places_of, IsBlock, AreBanks, AreBanks-next, bank-before, bank-next}
 use Rattle.mk_rules.proofs.Blocks.{Block}
 use Rattle.mk_rules.proofs.Accepted.{known_of, block_of, block-good, reads-same, shared-there, public-there}
@@ -41,65 +42,65 @@ block-cases before op k P there =
       | inr last ↦ inr last.0
     ]
 
-module _ (code : Listing) where
+module _ (shape : Shape) where
   -- the product that emitters append
   abbrev product_of : Gadget
-  product_of = product_gadget (code.order + 1)
+  product_of = product_gadget (shape.order + 1)
 
   -- the refresh
   abbrev refresh_of : Gadget
-  refresh_of = refresh_gadget (code.order + 1)
+  refresh_of = refresh_gadget (shape.order + 1)
 
   -- how many inputs there are
   abbrev inputs : ℕ
-  inputs = code.secrets + code.publics
+  inputs = shape.secrets + shape.publics
 
   -- an operator as a block
   abbrev block : Op → Block
-  block op = block_of code product_of refresh_of op (built_in-given code op)
+  block op = block_of shape product_of refresh_of op (built_in-given shape op)
 
   -- a wired one is good
-  good : (before : List Op) (op : Op) (ops : List Op) → IsWired code before op
-      → IsBlock code.field code.maps (code.order + 1) (known_of code (before ++ op ∷ ops)) (inputs + length before) (block op)
-  good before op ops wired = block-good code product_of refresh_of before op ops (built_in-given code op) wired
+  good : (before : List Op) (op : Op) (ops : List Op) → IsWired shape before op
+      → IsBlock shape.field shape.maps (shape.order + 1) (known_of shape (before ++ op ∷ ops)) (inputs + length before) (block op)
+  good before op ops wired = block-good shape product_of refresh_of before op ops (built_in-given shape op) wired
 
   -- banks behind one operator more
-  banks-more : (before : List Op) (op : Op) (ops : List Op) (base : ℕ) (banks : List (List ℕ)) → IsWired code before op
-      → AreBanks (code.order + 1) (known_of code (before ++ op ∷ ops)) (inputs + length before) base banks
-      → AreBanks (code.order + 1) (known_of code ((before ++ op ∷ []) ++ ops)) (inputs + length (before ++ op ∷ [])) (base + length (built_in (code.order + 1) op).instrs)
-      (banks ++ placed_outs (reads code banks op) base (built_in (code.order + 1) op) ∷ [])
+  banks-more : (before : List Op) (op : Op) (ops : List Op) (base : ℕ) (banks : List (List ℕ)) → IsWired shape before op
+      → AreBanks (shape.order + 1) (known_of shape (before ++ op ∷ ops)) (inputs + length before) base banks
+      → AreBanks (shape.order + 1) (known_of shape ((before ++ op ∷ []) ++ ops)) (inputs + length (before ++ op ∷ [])) (base + length (built_in (shape.order + 1) op).instrs)
+      (banks ++ placed_outs (reads shape banks op) base (built_in (shape.order + 1) op) ∷ [])
   banks-more before op ops base banks wired banked =
-      let n : ℕ = code.order + 1 in
+      let n : ℕ = shape.order + 1 in
       let at : inputs + length before + 1 ≡ inputs + length (before ++ op ∷ []) = omega (arith, length-append before (op ∷ [])) in
-      let next = AreBanks-next code.field code.maps n (known_of code (before ++ op ∷ ops)) (inputs + length before) base banks (block op) banked (good before op ops wired) in
-      subst (λ (all : List Op). AreBanks n (known_of code all) (inputs + length (before ++ op ∷ [])) (base + length (built_in n op).instrs) (banks ++ placed_outs (reads code banks op) base (built_in n op) ∷ []))
+      let next = AreBanks-next shape.field shape.maps n (known_of shape (before ++ op ∷ ops)) (inputs + length before) base banks (block op) banked (good before op ops wired) in
+      subst (λ (all : List Op). AreBanks n (known_of shape all) (inputs + length (before ++ op ∷ [])) (base + length (built_in n op).instrs) (banks ++ placed_outs (reads shape banks op) base (built_in n op) ∷ []))
       (sym (append_assoc before (op ∷ []) ops))
-      (subst (λ (v : ℕ). AreBanks n (known_of code (before ++ op ∷ ops)) v (base + length (built_in n op).instrs) (banks ++ placed_outs (reads code banks op) base (built_in n op) ∷ [])) at
-      (subst (λ (from : List ℕ). AreBanks n (known_of code (before ++ op ∷ ops)) (inputs + length before + 1) (base + length (built_in n op).instrs) (banks ++ placed_outs from base (built_in n op) ∷ []))
-      (sym (reads-same code product_of refresh_of banks op (built_in-given code op))) next))
+      (subst (λ (v : ℕ). AreBanks n (known_of shape (before ++ op ∷ ops)) v (base + length (built_in n op).instrs) (banks ++ placed_outs (reads shape banks op) base (built_in n op) ∷ [])) at
+      (subst (λ (from : List ℕ). AreBanks n (known_of shape (before ++ op ∷ ops)) (inputs + length before + 1) (base + length (built_in n op).instrs) (banks ++ placed_outs from base (built_in n op) ∷ []))
+      (sym (reads-same shape product_of refresh_of banks op (built_in-given shape op))) next))
 
   -- behind all operators
-  pub banks-all : (before ops : List Op) (base : ℕ) (banks : List (List ℕ)) → AllWired code before ops
-      → AreBanks (code.order + 1) (known_of code (before ++ ops)) (inputs + length before) base banks
-      → AreBanks (code.order + 1) (known_of code (before ++ ops)) (inputs + length (before ++ ops)) (base + length (laid code product_of refresh_of banks base ops))
-      (laid_banks code product_of refresh_of banks base ops)
+  pub banks-all : (before ops : List Op) (base : ℕ) (banks : List (List ℕ)) → AllWired shape before ops
+      → AreBanks (shape.order + 1) (known_of shape (before ++ ops)) (inputs + length before) base banks
+      → AreBanks (shape.order + 1) (known_of shape (before ++ ops)) (inputs + length (before ++ ops)) (base + length (laid shape product_of refresh_of banks base ops))
+      (laid_banks shape product_of refresh_of banks base ops)
   unfolding laid laid_banks
   banks-all before [] base banks wired banked =
       let none : List Op = [] in
       let whole : inputs + length before ≡ inputs + length (before ++ []) = omega (arith, length-append before none) in
       let end : base ≡ base + 0 = omega arith in
-      subst (λ (b : ℕ). AreBanks (code.order + 1) (known_of code (before ++ [])) (inputs + length (before ++ [])) b banks) end
-      (subst (λ (v : ℕ). AreBanks (code.order + 1) (known_of code (before ++ [])) v base banks) whole banked)
+      subst (λ (b : ℕ). AreBanks (shape.order + 1) (known_of shape (before ++ [])) (inputs + length (before ++ [])) b banks) end
+      (subst (λ (v : ℕ). AreBanks (shape.order + 1) (known_of shape (before ++ [])) v base banks) whole banked)
   banks-all before (op ∷ ops) base banks wired banked =
-      let n : ℕ = code.order + 1 in
+      let n : ℕ = shape.order + 1 in
       let gadget : Gadget = built_in n op in
-      let at : List ℕ = reads code banks op in
+      let at : List ℕ = reads shape banks op in
       let next : List (List ℕ) = banks ++ placed_outs at base gadget ∷ [] in
-      let rest : List Instr = laid code product_of refresh_of next (base + length gadget.instrs) ops in
+      let rest : List Instr = laid shape product_of refresh_of next (base + length gadget.instrs) ops in
       let end : base + length gadget.instrs + length rest ≡ base + length (placed at base gadget ++ rest) =
       omega (arith, length-append (placed at base gadget) rest, (run_laws-placed gadget at base)) in
-      subst (λ (b : ℕ). AreBanks n (known_of code (before ++ op ∷ ops)) (inputs + length (before ++ op ∷ ops)) b (laid_banks code product_of refresh_of next (base + length gadget.instrs) ops)) end
-      (subst (λ (all : List Op). AreBanks n (known_of code all) (inputs + length all) (base + length gadget.instrs + length rest) (laid_banks code product_of refresh_of next (base + length gadget.instrs) ops))
+      subst (λ (b : ℕ). AreBanks n (known_of shape (before ++ op ∷ ops)) (inputs + length (before ++ op ∷ ops)) b (laid_banks shape product_of refresh_of next (base + length gadget.instrs) ops)) end
+      (subst (λ (all : List Op). AreBanks n (known_of shape all) (inputs + length all) (base + length gadget.instrs + length rest) (laid_banks shape product_of refresh_of next (base + length gadget.instrs) ops))
       (append_assoc before (op ∷ []) ops)
       (banks-all (before ++ op ∷ []) ops (base + length gadget.instrs) next wired.1 (banks-more before op ops base banks wired.0 banked)))
     where
@@ -108,16 +109,16 @@ module _ (code : Listing) where
 
   -- an operand that is there, shared or public
   abbrev pub IsThere : List Op → Operand → Type 0
-  IsThere blocks v = IsSharedThere code blocks v ⊎ IsPublicThere code blocks v
+  IsThere blocks v = IsSharedThere shape blocks v ⊎ IsPublicThere shape blocks v
 
   -- the sums at the places of the values that are there are what they stand for
   abbrev pub AreRight : List Op → List (List ℕ) → List ℕ → List ℕ → List ℕ → List ℕ → Type 0
   AreRight blocks banks entries publics secrets values =
-      (v : Operand) → IsThere blocks v → sum_at code banks entries v ≡ operand_value publics secrets values v
+      (v : Operand) → IsThere blocks v → sum_at shape banks entries v ≡ operand_value publics secrets values v
 
   -- operators stand for the same where their operands do
-  pub value_by-same : (before : List Op) (of to : Operand → ℕ) (op : Op) → ((v : Operand) → IsThere before v → of v ≡ to v) → IsWired code before op
-      → value_by code.field code.maps of op ≡ value_by code.field code.maps to op
+  pub value_by-same : (before : List Op) (of to : Operand → ℕ) (op : Op) → ((v : Operand) → IsThere before v → of v ≡ to v) → IsWired shape before op
+      → value_by shape.field shape.maps of op ≡ value_by shape.field shape.maps to op
   value_by-same before of to (Const value) same wired = refl
   value_by-same before of to (PubAdd left right) same wired = rw (same left (inr wired.0), same right (inr wired.1)) refl
   value_by-same before of to (PubMul left right) same wired = rw (same left (inr wired.0), same right (inr wired.1)) refl
@@ -144,9 +145,9 @@ module _ (code : Listing) where
       elim (block-cases before op k (λ o. is_public o ≡ true) there) [ inl old ↦ inl (inr old) | inr last ↦ inr (ap operand.Block last) ]
 
   -- the number of a value that is there
-  number-below : (before ops : List Op) (v : Operand) → IsThere before v → value_number code v < inputs + length before
-  number-below before ops v (inl there) = (shared-there code product_of refresh_of before ops v there).0
-  number-below before ops v (inr there) = (public-there code product_of refresh_of before ops v there).0
+  number-below : (before ops : List Op) (v : Operand) → IsThere before v → value_number shape v < inputs + length before
+  number-below before ops v (inl there) = (shared-there shape product_of refresh_of before ops v there).0
+  number-below before ops v (inr there) = (public-there shape product_of refresh_of before ops v there).0
 
   -- it stands for the same behind one value more
   operand-stays : (before : List Op) (publics secrets values : List ℕ) (x : ℕ) (v : Operand) → length values ≡ length before → IsThere before v
@@ -154,81 +155,81 @@ module _ (code : Listing) where
   operand-stays before publics secrets values x (operand.Secret k) long there = refl
   operand-stays before publics secrets values x (operand.Public k) long there = refl
   operand-stays before publics secrets values x (operand.Block k) long there =
-      let below : value_number code (operand.Block k) < inputs + length before = number-below before [] (operand.Block k) there in
+      let below : value_number shape (operand.Block k) < inputs + length before = number-below before [] (operand.Block k) there in
       get_or_append_left values (x ∷ []) 0 k (omega (arith, below, long))
 
-  module _ (publics secrets : List ℕ) (images : AreElementMaps code.field code.maps) where
+  module _ (publics secrets : List ℕ) (images : AreElementMaps shape.field shape.maps) where
     -- what an operator stands for
     abbrev next_value : List ℕ → Op → ℕ
-    next_value values op = value_of code.field code.maps publics secrets values op
+    next_value values op = value_of shape.field shape.maps publics secrets values op
 
     -- one operator more
-    right-more : (before : List Op) (op : Op) (ops : List Op) (base : ℕ) (banks : List (List ℕ)) (tape entries values : List ℕ) → IsWired code before op
-        → AreBanks (code.order + 1) (known_of code (before ++ op ∷ ops)) (inputs + length before) base banks
-        → Elements (size code.field) base entries → length values ≡ length before → AreRight before banks entries publics secrets values
-        → AreRight (before ++ op ∷ []) (banks ++ placed_outs (reads code banks op) base (built_in (code.order + 1) op) ∷ [])
-        (run code.field code.maps (placed (reads code banks op) base (built_in (code.order + 1) op)) tape entries)
+    right-more : (before : List Op) (op : Op) (ops : List Op) (base : ℕ) (banks : List (List ℕ)) (tape entries values : List ℕ) → IsWired shape before op
+        → AreBanks (shape.order + 1) (known_of shape (before ++ op ∷ ops)) (inputs + length before) base banks
+        → Elements (size shape.field) base entries → length values ≡ length before → AreRight before banks entries publics secrets values
+        → AreRight (before ++ op ∷ []) (banks ++ placed_outs (reads shape banks op) base (built_in (shape.order + 1) op) ∷ [])
+        (run shape.field shape.maps (placed (reads shape banks op) base (built_in (shape.order + 1) op)) tape entries)
         publics secrets (values ++ next_value values op ∷ [])
     right-more before op ops base banks tape entries values wired banked elements long right v there =
-        let n : ℕ = code.order + 1 in
-        let outs : List ℕ = placed_outs (reads code banks op) base (built_in n op) in
-        let is : List Instr = placed (reads code banks op) base (built_in n op) in
-        let after : List ℕ = run code.field code.maps is tape entries in
+        let n : ℕ = shape.order + 1 in
+        let outs : List ℕ = placed_outs (reads shape banks op) base (built_in n op) in
+        let is : List Instr = placed (reads shape banks op) base (built_in n op) in
+        let after : List ℕ = run shape.field shape.maps is tape entries in
         let x : ℕ = next_value values op in
-        let known : ℕ → Bool = known_of code (before ++ op ∷ ops) in
+        let known : ℕ → Bool = known_of shape (before ++ op ∷ ops) in
         elim (there-cases before op v there) [
           | inl old ↦
-              let number : ℕ = value_number code v in
+              let number : ℕ = value_number shape v in
               let below : number < inputs + length before = number-below before (op ∷ ops) v old in
               ap (λ (places : List ℕ). shared_at places after) (bank-before banks outs number (omega (arith, below, banked.count)))
-              ∙ ap field_sum (observation-stays entries after (bank banks number) (take-run code.field code.maps is tape entries)
+              ∙ ap field_sum (observation-stays entries after (bank banks number) (take-run shape.field shape.maps is tape entries)
               (subst (λ (b : ℕ). AllBelow b (bank banks number)) (sym elements.count) (banked.below number below)))
               ∙ right v old
               ∙ sym (operand-stays before publics secrets values x v long old)
           | inr last ↦
-              let shared : (w : Operand) → IsSharedThere code before w → (value_number code w < inputs + length before) × (known (value_number code w) ≡ false) =
-              shared-there code product_of refresh_of before (op ∷ ops) in
-              let public : (w : Operand) → IsPublicThere code before w → (value_number code w < inputs + length before) × (known (value_number code w) ≡ true) =
-              public-there code product_of refresh_of before (op ∷ ops) in
-              subst (λ (w : Operand). sum_at code (banks ++ outs ∷ []) after w ≡ operand_value publics secrets (values ++ x ∷ []) w) (sym last)
+              let shared : (w : Operand) → IsSharedThere shape before w → (value_number shape w < inputs + length before) × (known (value_number shape w) ≡ false) =
+              shared-there shape product_of refresh_of before (op ∷ ops) in
+              let public : (w : Operand) → IsPublicThere shape before w → (value_number shape w < inputs + length before) × (known (value_number shape w) ≡ true) =
+              public-there shape product_of refresh_of before (op ∷ ops) in
+              subst (λ (w : Operand). sum_at shape (banks ++ outs ∷ []) after w ≡ operand_value publics secrets (values ++ x ∷ []) w) (sym last)
               (ap (λ (places : List ℕ). shared_at places after) (bank-next banks outs (inputs + length before) banked.count)
-              ∙ template-right code banks base before
-              (λ w here. banked.long (value_number code w) (shared w here).0 ∙ ap (places_of n) (shared w here).1)
-              (λ w here. banked.long (value_number code w) (public w here).0 ∙ ap (places_of n) (public w here).1)
-              (λ w here. banked.below (value_number code w) (shared w here).0)
-              (λ w here. banked.below (value_number code w) (public w here).0)
+              ∙ template-right shape banks base before
+              (λ w here. banked.long (value_number shape w) (shared w here).0 ∙ ap (places_of n) (shared w here).1)
+              (λ w here. banked.long (value_number shape w) (public w here).0 ∙ ap (places_of n) (public w here).1)
+              (λ w here. banked.below (value_number shape w) (shared w here).0)
+              (λ w here. banked.below (value_number shape w) (public w here).0)
               op wired tape entries elements.count elements.below
-              ∙ value_by-same before (sum_at code banks entries) (operand_value publics secrets values) op right wired
+              ∙ value_by-same before (sum_at shape banks entries) (operand_value publics secrets values) op right wired
               ∙ sym (get_or_push values x 0 (length before) long))
         ]
 
     -- all operators
-    pub right-all : (before ops : List Op) (base : ℕ) (banks : List (List ℕ)) (tape entries values : List ℕ) → AllWired code before ops
-        → AreBanks (code.order + 1) (known_of code (before ++ ops)) (inputs + length before) base banks
-        → Elements (size code.field) base entries → AllBelow (size code.field) tape → length values ≡ length before → AreRight before banks entries publics secrets values
-        → AreRight (before ++ ops) (laid_banks code product_of refresh_of banks base ops)
-        (run code.field code.maps (laid code product_of refresh_of banks base ops) tape entries) publics secrets (in_order next_value values ops)
+    pub right-all : (before ops : List Op) (base : ℕ) (banks : List (List ℕ)) (tape entries values : List ℕ) → AllWired shape before ops
+        → AreBanks (shape.order + 1) (known_of shape (before ++ ops)) (inputs + length before) base banks
+        → Elements (size shape.field) base entries → AllBelow (size shape.field) tape → length values ≡ length before → AreRight before banks entries publics secrets values
+        → AreRight (before ++ ops) (laid_banks shape product_of refresh_of banks base ops)
+        (run shape.field shape.maps (laid shape product_of refresh_of banks base ops) tape entries) publics secrets (in_order next_value values ops)
     unfolding laid laid_banks run in_order
     right-all before [] base banks tape entries values wired banked elements random long right =
         subst (λ (all : List Op). AreRight all banks entries publics secrets values) (sym (append-nil before)) right
     right-all before (op ∷ ops) base banks tape entries values wired banked elements random long right =
-        let n : ℕ = code.order + 1 in
+        let n : ℕ = shape.order + 1 in
         let gadget : Gadget = built_in n op in
-        let at : List ℕ = reads code banks op in
+        let at : List ℕ = reads shape banks op in
         let outs : List ℕ = placed_outs at base gadget in
         let is : List Instr = placed at base gadget in
-        let after : List ℕ = run code.field code.maps is tape entries in
+        let after : List ℕ = run shape.field shape.maps is tape entries in
         let x : ℕ = next_value values op in
-        let rest : List Instr = laid code product_of refresh_of (banks ++ outs ∷ []) (base + length gadget.instrs) ops in
-        let b : IsBlock code.field code.maps n (known_of code (before ++ op ∷ ops)) (inputs + length before) (block op) = good before op ops wired.0 in
-        let more : Elements (size code.field) (base + length gadget.instrs) after =
-        placed-elements code.field code.maps (length code.maps) (n * length (block op).shared + length (block op).publics) base at gadget tape entries images b.fit random elements
+        let rest : List Instr = laid shape product_of refresh_of (banks ++ outs ∷ []) (base + length gadget.instrs) ops in
+        let b : IsBlock shape.field shape.maps n (known_of shape (before ++ op ∷ ops)) (inputs + length before) (block op) = good before op ops wired.0 in
+        let more : Elements (size shape.field) (base + length gadget.instrs) after =
+        placed-elements shape.field shape.maps (length shape.maps) (n * length (block op).shared + length (block op).publics) base at gadget tape entries images b.fit random elements
         (length-map gadget.instrs _) in
-        subst (λ (all : List ℕ). AreRight (before ++ op ∷ ops) (laid_banks code product_of refresh_of (banks ++ outs ∷ []) (base + length gadget.instrs) ops) all publics secrets (in_order next_value (values ++ x ∷ []) ops))
-        (sym (run-append code.field code.maps is rest tape entries))
-        (subst (λ (all : List Op). AreRight all (laid_banks code product_of refresh_of (banks ++ outs ∷ []) (base + length gadget.instrs) ops)
-        (run code.field code.maps rest (drop (randoms is) tape) after) publics secrets (in_order next_value (values ++ x ∷ []) ops)) (append_assoc before (op ∷ []) ops)
+        subst (λ (all : List ℕ). AreRight (before ++ op ∷ ops) (laid_banks shape product_of refresh_of (banks ++ outs ∷ []) (base + length gadget.instrs) ops) all publics secrets (in_order next_value (values ++ x ∷ []) ops))
+        (sym (run-append shape.field shape.maps is rest tape entries))
+        (subst (λ (all : List Op). AreRight all (laid_banks shape product_of refresh_of (banks ++ outs ∷ []) (base + length gadget.instrs) ops)
+        (run shape.field shape.maps rest (drop (randoms is) tape) after) publics secrets (in_order next_value (values ++ x ∷ []) ops)) (append_assoc before (op ∷ []) ops)
         (right-all (before ++ op ∷ []) ops (base + length gadget.instrs) (banks ++ outs ∷ []) (drop (randoms is) tape) after (values ++ x ∷ []) wired.1
-        (banks-more before op ops base banks wired.0 banked) more (AllBelow-drop (size code.field) (randoms is) tape random)
+        (banks-more before op ops base banks wired.0 banked) more (AllBelow-drop (size shape.field) (randoms is) tape random)
         (omega (arith, length-append values (x ∷ []), length-append before (op ∷ []), long))
         (right-more before op ops base banks tape entries values wired.0 banked elements long right)))

@@ -9,7 +9,6 @@ use Rattle.std.proofs.Math.Nat.{mul-le-mul_right}
 use Rattle.mk_field.specs.declared.field.FieldId.{FieldId}
 use Rattle.mk_field.specs.declared.field.FieldId.TheVariants.{Gf2, Gf256}
 use Rattle.mk_field.specs.Field.{size}
-use Rattle.mk_code.specs.Listing.{Listing}
 use Rattle.mk_ssa.specs.declared.Op.{Op}
 use Rattle.mk_ssa.specs.declared.Op.TheVariants.{Const, PubAdd, PubMul, PubSq, PubMap, Lift, Add, AddPub, Scale, Sq, Map, Mul, Refresh}
 use Rattle.mk_ssa.specs.declared.Operand.{Operand}
@@ -25,19 +24,20 @@ use Rattle.mk_gadget.specs.Template.{built_in}
 use Rattle.mk_gadget.proofs.Pairs.{twice-pairs}
 use Rattle.mk_gadget.proofs.RefreshRun.{length-refresh}
 use Rattle.mk_gadget.proofs.ProductRows.{length-product}
+use Rattle.mk_rules.specs.Shape.{Shape}
 use Rattle.mk_rules.specs.Tiles.{value_number}
 use Rattle.mk_place.specs.Uses.{Use, plain, uses}
 use Rattle.mk_place.specs.Layout.{Marks, one, renamed, refreshed, with_operands, refresh_at, blocks_of, blocks_from}
-use Rattle.mk_place.proofs.Fitting.{AreAtUses}
+use Rattle.mk_place.proofs.Fitting.{AreAtUses, one-few}
 use Rattle.mk_place.proofs.Using.{IsUse, use-is}
 use Rattle.mk_compile.specs.Emitting.{blocks_len}
 use Rattle.mk_compile.proofs.Banks.{linear-len}
 
 -- an operand is there where its number is
-unnumbered : (code : Listing) (vs : List Operand) (k v : ℕ) → slice_get (map (value_number code) vs) k ≡ Some v → IsSome (slice_get vs k)
-unnumbered code [] k v there = absurd (cc)
-unnumbered code (w ∷ vs) zero v there = refl
-unnumbered code (w ∷ vs) (suc k) v there = unnumbered code vs k v there
+unnumbered : (shape : Shape) (vs : List Operand) (k v : ℕ) → slice_get (map (value_number shape) vs) k ≡ Some v → IsSome (slice_get vs k)
+unnumbered shape [] k v there = absurd (cc)
+unnumbered shape (w ∷ vs) zero v there = refl
+unnumbered shape (w ∷ vs) (suc k) v there = unnumbered shape vs k v there
 
 -- where only uses are marked, each mark is at an operand that there is
 pub used-there : (s : Values) (marks : Marks) → ((i k : ℕ) → marks i k ≡ true → (u : Use) × Contains (uses s) u × (u.value ≡ i) × (u.place ≡ k))
@@ -50,11 +50,6 @@ used-there s marks used i k op there on =
     subst (λ (x : Op). IsSome (slice_get (shared_operands x) k)) same
     (subst (λ (j : ℕ). IsSome (slice_get (shared_operands is.op) j)) mark.3
     (unnumbered (plain s) (shared_operands is.op) u.place u.operand is.operand))
-
--- a mark counts at most once
-one-few : (b : Bool) → one b ≤ 1
-one-few true = omega arith
-one-few false = omega arith
 
 -- what is marked of a value without shared operands is nothing
 none-marked : (marks : Marks) (i k : ℕ) (op : Op) → shared_operands op ≡ [] → (marks i k ≡ true → IsSome (slice_get (shared_operands op) k)) → one (marks i k) ≡ 0
@@ -277,6 +272,7 @@ record Agrees (op : Op) : Type 0 where
   lift : lifts_operator (operator op) ≡ is_lift op
   made : makes_operator (operator op) ≡ is_made op
 
+-- the tests on operators and on blocks agree for each operator
 agrees : (op : Op) → Agrees op
 agrees (Const value) = record { constant = refl; lift = refl; made = refl }
 agrees (PubAdd left right) = record { constant = refl; lift = refl; made = refl }
@@ -316,6 +312,7 @@ pub record AreFew (values : List Op) (n : ℕ) : Type 0 where
   pub few_made : made values ≤ 16384
   pub few_size : made values * (n * n) ≤ 1000000
 
+-- where simplifying adds no value of any kind and leaves few constants, values that were few stay few
 pub simplified-few : (s r : Values) (order : ℕ) → HasFewValues s order
     → ((p : Operator → Bool) → simplified_.count_operators p r ≤ simplified_.count_operators p s)
     → simplified_.count_operators simplified_.is_constant r ≤ size r.field → AreFew r.values (order + 1)

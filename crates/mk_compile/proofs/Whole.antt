@@ -9,7 +9,7 @@ use Rattle.mk_field.specs.Field.{size}
 use Rattle.mk_field.specs.Sharing.{field_sum, decoded}
 use Rattle.mk_field.proofs.Sum.{sum-zero_right}
 use Rattle.mk_code.specs.declared.instr.Instr.{Instr}
-use Rattle.mk_code.specs.Listing.{Listing}
+use Rattle.mk_code.specs.Listing.{Listing, HasElementImages}
 use Rattle.mk_code.specs.Trace.{run, trace}
 use Rattle.mk_code.specs.Private.{observation}
 use Rattle.mk_code.proofs.Totals.{Elements-append}
@@ -19,19 +19,18 @@ use Rattle.mk_ssa.specs.declared.Operand.TheVariants as operand
 use Rattle.mk_gadget.specs.Emitted.{shared_at}
 use Rattle.mk_gadget.specs.Product.{product_gadget}
 use Rattle.mk_gadget.specs.Refresh.{refresh_gadget}
-use Rattle.mk_gadget.proofs.AddTemplate.{AllBelow-range}
+use Rattle.mk_gadget.proofs.Ranges.{AllBelow-range}
+use Rattle.mk_rules.specs.Shape.{Shape, shape_of}
 use Rattle.mk_rules.specs.Claimed.{Claimed}
 use Rattle.mk_rules.specs.Tiles.{Tiles, value_number, input_banks, first_place}
 use Rattle.mk_rules.specs.Wired.{IsSharedThere, Wired}
 use Rattle.mk_rules.specs.Accepts.{Outputs}
-use Rattle.mk_rules.specs.Privacy.{HasElementImages}
 use Rattle.mk_rules.proofs.Standing.{AreBanks}
 use Rattle.mk_rules.proofs.Front.{AreInputs, input-banks, secret-bank, public-bank}
 use Rattle.mk_rules.proofs.Accepted.{known_of, known-secret, known-public}
 use Rattle.mk_rules.proofs.Laid.{bank-long}
 use Rattle.mk_rules.proofs.BuiltIn.{built_in-given}
-use Rattle.mk_compile.specs.Emitting.{built_banks}
-use Rattle.mk_compile.specs.RightValues.{stands_for, ComputesValues, ComputesClaims, RightValues}
+use Rattle.mk_compile.specs.RightValues.{built_banks, stands_for, ComputesValues, ComputesClaims, RightValues}
 use Rattle.mk_compile.proofs.Sharings.{observed-window, decoded-at, decoded-banks, observation-stays}
 use Rattle.mk_compile.proofs.Right.{AreRight, right-all}
 
@@ -45,66 +44,66 @@ one-entry : (bank entries : List ℕ) (place : ℕ) → bank ≡ place ∷ [] �
 unfolding field_sum
 one-entry bank entries place is = ap (λ (ps : List ℕ). shared_at ps entries) is ∙ sum-zero_right (slice_index entries place)
 
-module _ (code : Listing) where
+module _ (shape : Shape) where
   -- the banks of the inputs of code that is made of these blocks
-  pub inputs-banked : (blocks : List Op) → AreBanks (code.order + 1) (known_of code blocks) (code.secrets + code.publics + 0) (first_place code) (input_banks code)
+  pub inputs-banked : (blocks : List Op) → AreBanks (shape.order + 1) (known_of shape blocks) (shape.secrets + shape.publics + 0) (first_place shape) (input_banks shape)
   inputs-banked blocks =
-      let product = product_gadget (code.order + 1) in
-      let refresh = refresh_gadget (code.order + 1) in
-      let given : AreInputs code (known_of code blocks) =
-      record { secrets = known-secret code product refresh blocks; publics = known-public code product refresh blocks } in
-      let none : code.secrets + code.publics ≡ code.secrets + code.publics + 0 = omega arith in
-      subst (λ (v : ℕ). AreBanks (code.order + 1) (known_of code blocks) v (first_place code) (input_banks code)) none (input-banks code (known_of code blocks) given)
+      let product = product_gadget (shape.order + 1) in
+      let refresh = refresh_gadget (shape.order + 1) in
+      let given : AreInputs shape (known_of shape blocks) =
+      record { secrets = known-secret shape product refresh blocks; publics = known-public shape product refresh blocks } in
+      let none : shape.secrets + shape.publics ≡ shape.secrets + shape.publics + 0 = omega arith in
+      subst (λ (v : ℕ). AreBanks (shape.order + 1) (known_of shape blocks) v (first_place shape) (input_banks shape)) none (input-banks shape (known_of shape blocks) given)
 
   -- the sums of the shares of the secrets are the secrets, and the publics stand for themselves
-  inputs-right : (publics shares : List ℕ) → length shares ≡ code.secrets * (code.order + 1)
-      → AreRight code [] (input_banks code) (shares ++ publics) publics (decoded (code.order + 1) code.secrets shares) []
+  inputs-right : (publics shares : List ℕ) → length shares ≡ shape.secrets * (shape.order + 1)
+      → AreRight shape [] (input_banks shape) (shares ++ publics) publics (decoded (shape.order + 1) shape.secrets shares) []
   inputs-right publics shares long (operand.Secret k) (inl there) =
-      let n : ℕ = code.order + 1 in
-      let step : suc k * n ≤ code.secrets * n = mul-le-mul_right n there in
+      let n : ℕ = shape.order + 1 in
+      let step : suc k * n ≤ shape.secrets * n = mul-le-mul_right n there in
       let places : List ℕ = range_with_len (k * n) n in
-      ap (λ (ps : List ℕ). shared_at ps (shares ++ publics)) (secret-bank code k there)
+      ap (λ (ps : List ℕ). shared_at ps (shares ++ publics)) (secret-bank shape k there)
       ∙ ap field_sum (observation-stays shares (shares ++ publics) places (take-append_seam shares publics) (AllBelow-range (length shares) (k * n) n (omega (arith, step, long))))
       ∙ ap field_sum (observed-window (k * n) n shares (omega (arith, step, long)))
-      ∙ sym (decoded-at n code.secrets shares k there)
+      ∙ sym (decoded-at n shape.secrets shares k there)
   inputs-right publics shares long (operand.Secret k) (inr there) = absurd there
   inputs-right publics shares long (operand.Public k) (inl there) = absurd there
   inputs-right publics shares long (operand.Public k) (inr there) =
-      let n : ℕ = code.order + 1 in
-      let end : ℕ = code.secrets * n in
-      let place : ℕ = end + (code.secrets + k - code.secrets) in
+      let n : ℕ = shape.order + 1 in
+      let end : ℕ = shape.secrets * n in
+      let place : ℕ = end + (shape.secrets + k - shape.secrets) in
       let back : place - end ≡ k = omega arith in
-      one-entry (slice_index_or (input_banks code) (code.secrets + k) []) (shares ++ publics) place (public-bank code (code.secrets + k) (omega arith) (omega (arith, there)))
+      one-entry (slice_index_or (input_banks shape) (shape.secrets + k) []) (shares ++ publics) place (public-bank shape (shape.secrets + k) (omega arith) (omega (arith, there)))
       ∙ get_or-append_right shares publics end place 0 long (omega arith)
       ∙ ap (slice_index publics) back
   inputs-right publics shares long (operand.Block k) (inl there) = absurd there
   inputs-right publics shares long (operand.Block k) (inr there) = absurd there
 
-  module _ (blocks : List Op) (images : HasElementImages code) (wired : Wired code blocks)
-      (tiles : Tiles code (product_gadget (code.order + 1)) (refresh_gadget (code.order + 1)) blocks) where
-    -- all values are right
-    pub values-right : ComputesValues code blocks
-    values-right publics shares tape publics_are shares_are tape_is v there =
-        let secrets : List ℕ = decoded (code.order + 1) code.secrets shares in
-        subst (λ (is : List Instr). shared_at (slice_index_or (built_banks code blocks) (value_number code v) []) (run code.field code.maps is tape (shares ++ publics))
-        ≡ stands_for code blocks publics secrets v) (sym tiles)
-        (right-all code publics secrets images [] blocks (first_place code) (input_banks code) tape (shares ++ publics) [] wired (inputs-banked blocks)
-        (Elements-append (size code.field) (code.secrets * (code.order + 1)) code.publics shares publics shares_are publics_are) tape_is.below refl
-        (inputs-right publics shares shares_are.count) v there)
+module _ (code : Listing) (blocks : List Op) (images : HasElementImages code) (wired : Wired (shape_of code) blocks)
+    (tiles : Tiles code (product_gadget (code.order + 1)) (refresh_gadget (code.order + 1)) blocks) where
+  -- all values are right
+  pub values-right : ComputesValues code blocks
+  values-right publics shares tape publics_are shares_are tape_is v there =
+      let secrets : List ℕ = decoded (code.order + 1) code.secrets shares in
+      subst (λ (is : List Instr). shared_at (slice_index_or (built_banks (shape_of code) blocks) (value_number (shape_of code) v) []) (run code.field code.maps is tape (shares ++ publics))
+      ≡ stands_for (shape_of code) blocks publics secrets v) (sym tiles)
+      (right-all (shape_of code) publics secrets images [] blocks (first_place (shape_of code)) (input_banks (shape_of code)) tape (shares ++ publics) [] wired (inputs-banked (shape_of code) blocks)
+      (Elements-append (size code.field) (code.secrets * (code.order + 1)) code.publics shares publics shares_are publics_are) tape_is.below refl
+      (inputs-right (shape_of code) publics shares shares_are.count) v there)
 
-    -- so are the outputs
-    pub claims-right : (claims : List Operand) → Outputs code (product_gadget (code.order + 1)) (refresh_gadget (code.order + 1)) blocks claims
-        → ComputesClaims code (record { blocks = blocks; claims = claims })
-    claims-right claims outputs publics shares tape publics_are shares_are tape_is =
-        let n : ℕ = code.order + 1 in
-        let bank : Operand → List ℕ = λ v. slice_index_or (built_banks code blocks) (value_number code v) [] in
-        let entries : List ℕ = trace code publics shares tape in
-        let all : AllByRecursion (IsSharedThere code blocks) claims = recursion_from_All (IsSharedThere code blocks) claims outputs.there in
-        ap (λ (outs : List ℕ). decoded n (length claims) (observation outs entries)) outputs.outs
-        ∙ decoded-banks n bank (IsSharedThere code blocks) claims entries
-        (λ v there. bank-long code (product_gadget n) (refresh_gadget n) blocks v wired (built_in-given code) there) all
-        ∙ map-each (λ v. shared_at (bank v) entries) (stands_for code blocks publics (decoded n code.secrets shares)) (IsSharedThere code blocks) claims
-        (λ v there. values-right publics shares tape publics_are shares_are tape_is v (inl there)) all
+  -- so are the outputs
+  pub claims-right : (claims : List Operand) → Outputs code (product_gadget (code.order + 1)) (refresh_gadget (code.order + 1)) blocks claims
+      → ComputesClaims code (record { blocks = blocks; claims = claims })
+  claims-right claims outputs publics shares tape publics_are shares_are tape_is =
+      let n : ℕ = code.order + 1 in
+      let bank : Operand → List ℕ = λ v. slice_index_or (built_banks (shape_of code) blocks) (value_number (shape_of code) v) [] in
+      let entries : List ℕ = trace code publics shares tape in
+      let all : AllByRecursion (IsSharedThere (shape_of code) blocks) claims = recursion_from_All (IsSharedThere (shape_of code) blocks) claims outputs.there in
+      ap (λ (outs : List ℕ). decoded n (length claims) (observation outs entries)) outputs.outs
+      ∙ decoded-banks n bank (IsSharedThere (shape_of code) blocks) claims entries
+      (λ v there. bank-long (shape_of code) (product_gadget n) (refresh_gadget n) blocks v wired (built_in-given (shape_of code)) there) all
+      ∙ map-each (λ v. shared_at (bank v) entries) (stands_for (shape_of code) blocks publics (decoded n code.secrets shares)) (IsSharedThere (shape_of code) blocks) claims
+      (λ v there. values-right publics shares tape publics_are shares_are tape_is v (inl there)) all
 
 -- the law holds
 pub right_values-hold : (code : Listing) (cert : Claimed) → RightValues code cert

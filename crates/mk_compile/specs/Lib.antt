@@ -1,6 +1,6 @@
-pub mod Places
-pub mod Emitting
 pub mod RightValues
+pub mod Emitting
+pub mod Places
 pub mod Correct
 pub mod MadeFor
 pub mod Compiled

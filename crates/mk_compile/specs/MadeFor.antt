@@ -1,16 +1,16 @@
 -- That a code is made for a program, by a certificate.
 use Rattle.std.specs.Prelude.{◌≡◌, ℕ, ◌+◌, List, length, map}
-use Rattle.mk_code.specs.Listing.{Listing}
+use Rattle.mk_code.specs.Listing.{Listing, HasElementImages}
 use Rattle.mk_ast.specs.declared.tree.Program.{Program}
 use Rattle.mk_ssa.specs.Denoted.{denoted}
 use Rattle.mk_unroll.specs.Unrolled.{unrolled}
 use Rattle.mk_gadget.specs.Product.{product_gadget}
 use Rattle.mk_gadget.specs.Refresh.{refresh_gadget}
+use Rattle.mk_rules.specs.Shape.{shape_of}
 use Rattle.mk_rules.specs.Claimed.{Claimed}
 use Rattle.mk_rules.specs.Tiles.{Tiles}
 use Rattle.mk_rules.specs.Wired.{Wired}
 use Rattle.mk_rules.specs.Accepts.{Outputs}
-use Rattle.mk_rules.specs.Privacy.{HasElementImages}
 use Rattle.mk_compile.specs.RightValues.{stands_for}
 use Rattle.mk_types.specs.Elements.{secrets_of, publics_of, outputs_of}
 
@@ -23,8 +23,9 @@ pub record IsMadeFor (p : Program) (order : ℕ) (code : Listing) (cert : Claime
   pub secrets : code.secrets ≡ secrets_of p
   pub publics : code.publics ≡ publics_of p
   pub images : HasElementImages code
-  pub wired : Wired code cert.blocks
+  pub wired : Wired (shape_of code) cert.blocks
   pub tiles : Tiles code (product_gadget (code.order + 1)) (refresh_gadget (code.order + 1)) cert.blocks
   pub outputs : Outputs code (product_gadget (code.order + 1)) (refresh_gadget (code.order + 1)) cert.blocks cert.claims
   pub count : length cert.claims ≡ outputs_of p
-  pub meaning : (publics secrets : List ℕ) → map (stands_for code cert.blocks publics secrets) cert.claims ≡ denoted (unrolled p) publics secrets
+  pub meaning : (publics secrets : List ℕ)
+      → map (stands_for (shape_of code) cert.blocks publics secrets) cert.claims ≡ denoted (unrolled p) publics secrets

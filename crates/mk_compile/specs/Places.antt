@@ -1,18 +1,19 @@
--- Where the values of a code in the making stand.
+-- Where the values of a code in the making stand: for the contracts inside the crate, none of the public ones cites it.
 use Rattle.std.specs.Prelude.{◌≡◌, ℕ, ◌+◌, ◌*◌, ◌<◌, Bool, true, false, List, [], ◌∷◌, ◌++◌, All, IsSomeAnd, map, slice_get, slice_index_or}
 use Rattle.std.specs.List.{flat_map, range_with_len}
 use Rattle.mk_field.specs.declared.field.FieldId.{FieldId}
 use Rattle.mk_field.specs.Field.{size}
 use Rattle.mk_code.specs.declared.instr.Instr.{Instr}
-use Rattle.mk_code.specs.Listing.{Listing}
 use Rattle.mk_code.specs.Counting.{AllBelow}
 use Rattle.mk_ssa.specs.declared.Operand.{Operand}
 use Rattle.mk_ssa.specs.declared.Operand.TheVariants as operand
 use Rattle.mk_ssa.specs.declared.Op.{Op}
 use Rattle.mk_ssa.specs.declared.Op.TheVariants.{Const, PubMap, Map}
 use Rattle.mk_ssa.specs.Kinds.{is_public, shared_operands, public_operands}
+use Rattle.mk_rules.specs.Shape.{Shape}
 use Rattle.mk_rules.specs.Tiles.{input_banks}
-use Rattle.mk_compile.specs.Emitting.{instrs_of, built_banks}
+use Rattle.mk_compile.specs.RightValues.{built_banks}
+use Rattle.mk_compile.specs.Emitting.{instrs_of}
 use Rattle.mk_compile.specs.declared.places.Place.{Place}
 use Rattle.mk_compile.specs.declared.places.Place.TheVariants.{Shared, Public}
 
@@ -71,8 +72,8 @@ module _ {N : ℕ} where
   abbrev pub AreBefore : ℕ → List (Place N) → Type 0
   AreBefore len blocks = All (λ place. AllBelow len (bank_at place)) blocks
 
-  -- over the inputs of a code, the templates of the blocks were laid, and the values stand at these places
-  pub record ArePlaced (code : Listing) (blocks : List Op) (instrs : List Instr) (places : List (Place N)) : Type 0 where
-    pub laid : instrs ≡ instrs_of code blocks
-    pub banks : input_banks code ++ map bank_at places ≡ built_banks code blocks
+  -- over a shape, the templates of the blocks were laid, and the values stand at these places
+  pub record ArePlaced (shape : Shape) (blocks : List Op) (instrs : List Instr) (places : List (Place N)) : Type 0 where
+    pub laid : instrs ≡ instrs_of shape blocks
+    pub banks : input_banks shape ++ map bank_at places ≡ built_banks shape blocks
     pub kinds : map is_public_at places ≡ map is_public blocks

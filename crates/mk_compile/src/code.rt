@@ -2,7 +2,10 @@
 
 ghost use Rattle.std.specs.Prelude.{◌≡◌, ◌≤◌, ◌+◌, ◌*◌, All, IfOk, length};
 ghost use Rattle.std.specs.List.{flat_map};
-ghost use Rattle.mk_code.specs.Listing.{HasMapsOnlyInBytes};
+ghost use Rattle.mk_rules.specs.declared.TheConstants.{MOST_CLAIMS};
+ghost use Rattle.mk_base.specs.declared.TheConstants.{TOP_ORDER};
+ghost use Rattle.mk_code.specs.declared.TheConstants.{MOST_INPUTS, MOST_MAPS, MOST_INSTRS};
+ghost use Rattle.mk_field.specs.Field.{HasMapsOnlyInBytes};
 ghost use Rattle.mk_rules.specs.Wired.{IsSharedThere, Wired};
 ghost use Rattle.mk_compile.specs.Emitting.{bare, blocks_len, code_of};
 ghost use Rattle.mk_compile.specs.Places.{IsSharedAt, bank_of};
@@ -24,10 +27,10 @@ fn outs<const N: usize>(
     blocks: &[Place<N>],
     claims: &[Operand],
 ) -> Result<PositionList, Memory>
-    requires shares { N ≤ 9 }
-    requires few { inputs.secrets ≤ 65536 }
+    requires shares { N ≤ TOP_ORDER + 1 }
+    requires few { inputs.secrets ≤ MOST_INPUTS }
     requires there { All (IsSharedAt inputs.secrets blocks.now) claims.now }
-    requires few_claims { length claims.now ≤ 65536 }
+    requires few_claims { length claims.now ≤ MOST_CLAIMS }
     ensures places { IfOk result (λ outs. outs ≡ flat_map (bank_of inputs.secrets blocks.now) claims.now) }
     ensures count { IfOk result (λ outs. length outs ≡ length claims.now * N) }
 {
@@ -46,15 +49,15 @@ fn code_with<F: Field, const N: usize>(
     maps: MapList,
     cert: &Cert,
 ) -> Result<Code, Memory>
-    requires order { (1 ≤ order) × (order ≤ 8) }
+    requires order { (1 ≤ order) × (order ≤ TOP_ORDER) }
     requires shares { order + 1 ≡ N }
-    requires inputs { (inputs.secrets ≤ 65536) × (inputs.publics ≤ 65536) }
-    requires maps { length maps ≤ 32768 }
+    requires inputs { (inputs.secrets ≤ MOST_INPUTS) × (inputs.publics ≤ MOST_INPUTS) }
+    requires maps { length maps ≤ MOST_MAPS }
     requires bytes { HasMapsOnlyInBytes F.ID maps }
     requires wired { Wired (bare F.ID order inputs.secrets inputs.publics maps) cert.now.blocks }
     requires claims { All (IsSharedThere (bare F.ID order inputs.secrets inputs.publics maps) cert.now.blocks) cert.now.claims }
-    requires few { blocks_len N cert.now.blocks ≤ 8388608 }
-    requires few_claims { length cert.now.claims ≤ 65536 }
+    requires few { blocks_len N cert.now.blocks ≤ MOST_INSTRS }
+    requires few_claims { length cert.now.claims ≤ MOST_CLAIMS }
     ensures { IfOk result (λ code. code ≡ code_of (bare F.ID order inputs.secrets inputs.publics maps) cert.now) }
 {
     let mut builder = CodeBuilder::<F>::new(alloc, order, inputs.secrets, inputs.publics, maps);
@@ -73,14 +76,14 @@ pub(crate) fn emit_code(
     maps: MapList,
     cert: &Cert,
 ) -> Result<Code, Memory>
-    requires order { (1 ≤ order) × (order ≤ 8) }
-    requires inputs { (inputs.secrets ≤ 65536) × (inputs.publics ≤ 65536) }
-    requires maps { length maps ≤ 32768 }
+    requires order { (1 ≤ order) × (order ≤ TOP_ORDER) }
+    requires inputs { (inputs.secrets ≤ MOST_INPUTS) × (inputs.publics ≤ MOST_INPUTS) }
+    requires maps { length maps ≤ MOST_MAPS }
     requires bytes { HasMapsOnlyInBytes field maps }
     requires wired { Wired (bare field order inputs.secrets inputs.publics maps) cert.now.blocks }
     requires claims { All (IsSharedThere (bare field order inputs.secrets inputs.publics maps) cert.now.blocks) cert.now.claims }
-    requires few { blocks_len (order + 1) cert.now.blocks ≤ 8388608 }
-    requires few_claims { length cert.now.claims ≤ 65536 }
+    requires few { blocks_len (order + 1) cert.now.blocks ≤ MOST_INSTRS }
+    requires few_claims { length cert.now.claims ≤ MOST_CLAIMS }
     ensures { IfOk result (λ code. code ≡ code_of (bare field order inputs.secrets inputs.publics maps) cert.now) }
 {
     match field {

@@ -1,6 +1,8 @@
 //! The templates of blocks, emitted one after the other.
 
 ghost use Rattle.std.specs.Prelude.{◌≡◌, ◌≤◌, ◌<◌, ◌+◌, ◌*◌, ◌++◌, ℕ, All, true, false, [], ◌∷◌, length, IfOk};
+ghost use Rattle.mk_base.specs.declared.TheConstants.{TOP_ORDER};
+ghost use Rattle.mk_code.specs.declared.TheConstants.{MOST_INPUTS, MOST_INSTRS};
 ghost use Rattle.mk_code.specs.Draft.{draft_len};
 ghost use Rattle.mk_code.specs.Listing.{FitsAt};
 ghost use Rattle.mk_ssa.specs.Kinds.{is_public, shared_operands, public_operands};
@@ -25,9 +27,9 @@ use std::alloc::Global;
 
 /// The instruction of a public operator, over the values of blocks.
 fn public_instr<const N: usize>(inputs: Inputs, blocks: &[Place<N>], op: Op) -> Instr
-    requires shares { N ≤ 9 }
-    requires few { inputs.secrets ≤ 65536 }
-    requires few_publics { inputs.publics ≤ 65536 }
+    requires shares { N ≤ TOP_ORDER + 1 }
+    requires few { inputs.secrets ≤ MOST_INPUTS }
+    requires few_publics { inputs.publics ≤ MOST_INPUTS }
     requires public { is_public op ≡ true }
     requires there { All (IsPublicAt inputs.publics blocks.now) (public_operands op) }
     ensures { (base : ℕ) → placed (places_read inputs.secrets blocks.now op) base (built_in N op) ≡ result ∷ [] }
@@ -60,12 +62,12 @@ fn emit_shared<F: Field, const N: usize>(
     blocks: &[Place<N>],
     op: Op,
 ) -> Result<Bank<N>, Memory>
-    requires shares { (2 ≤ N) × (N ≤ 9) }
+    requires shares { (2 ≤ N) × (N ≤ TOP_ORDER + 1) }
     requires order { builder.old.order + 1 ≡ N }
     requires secrets { inputs.secrets ≡ builder.old.secrets }
     requires publics { inputs.publics ≡ builder.old.publics }
-    requires inputs { (inputs.secrets ≤ 65536) × (inputs.publics ≤ 65536) }
-    requires few { length builder.old.instrs + length (built_in N op).instrs ≤ 8388608 }
+    requires inputs { (inputs.secrets ≤ MOST_INPUTS) × (inputs.publics ≤ MOST_INPUTS) }
+    requires few { length builder.old.instrs + length (built_in N op).instrs ≤ MOST_INSTRS }
     requires shared { is_public op ≡ false }
     requires there { HasOperands inputs.secrets inputs.publics (length builder.old.maps) blocks.now op }
     requires before { AreBefore (draft_len builder.old) blocks.now }
@@ -114,12 +116,12 @@ fn emit<F: Field, const N: usize>(
     blocks: &[Place<N>],
     op: Op,
 ) -> Result<Place<N>, Memory>
-    requires shares { (2 ≤ N) × (N ≤ 9) }
+    requires shares { (2 ≤ N) × (N ≤ TOP_ORDER + 1) }
     requires order { builder.old.order + 1 ≡ N }
     requires secrets { inputs.secrets ≡ builder.old.secrets }
     requires publics { inputs.publics ≡ builder.old.publics }
-    requires inputs { (inputs.secrets ≤ 65536) × (inputs.publics ≤ 65536) }
-    requires few { length builder.old.instrs + length (built_in N op).instrs ≤ 8388608 }
+    requires inputs { (inputs.secrets ≤ MOST_INPUTS) × (inputs.publics ≤ MOST_INPUTS) }
+    requires few { length builder.old.instrs + length (built_in N op).instrs ≤ MOST_INSTRS }
     requires constant { IsElement F.ID op }
     requires there { HasOperands inputs.secrets inputs.publics (length builder.old.maps) blocks.now op }
     requires before { AreBefore (draft_len builder.old) blocks.now }
@@ -143,14 +145,14 @@ pub(crate) fn emit_blocks<F: Field, const N: usize>(
     inputs: Inputs,
     blocks: &[Op],
 ) -> Result<Vec<Place<N>>, Memory>
-    requires shares { (2 ≤ N) × (N ≤ 9) }
+    requires shares { (2 ≤ N) × (N ≤ TOP_ORDER + 1) }
     requires order { builder.old.order + 1 ≡ N }
     requires secrets { inputs.secrets ≡ builder.old.secrets }
     requires publics { inputs.publics ≡ builder.old.publics }
-    requires inputs { (inputs.secrets ≤ 65536) × (inputs.publics ≤ 65536) }
+    requires inputs { (inputs.secrets ≤ MOST_INPUTS) × (inputs.publics ≤ MOST_INPUTS) }
     requires none { builder.old.instrs ≡ [] }
     requires wired { Wired (bare_of F.ID builder.old) blocks.now }
-    requires few { blocks_len N blocks.now ≤ 8388608 }
+    requires few { blocks_len N blocks.now ≤ MOST_INSTRS }
     ensures code { IfOk result (λ places. builder.new ≡ record builder.old { instrs = builder.new.instrs; spare = builder.new.spare }) }
     ensures placed { IfOk result (λ places. ArePlaced (bare_of F.ID builder.old) blocks.now builder.new.instrs places.items) }
 {

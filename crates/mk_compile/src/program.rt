@@ -3,8 +3,10 @@
 ghost use Rattle.std.specs.Prelude.{◌≡◌, ◌≤◌, ◌⊎◌, IfOk, IfErr, OnOk, length};
 ghost use Rattle.mk_base.specs.declared.TheConstants.{TOP_ORDER};
 ghost use Rattle.mk_ast.specs.declared.refusal.SourceRefusal.TheVariants as refusal_;
+ghost use Rattle.mk_code.specs.declared.TheConstants.{MOST_MAPS};
 ghost use Rattle.mk_code.specs.Private.{Private};
 ghost use Rattle.mk_rules.specs.Accepts.{IsAccepted};
+ghost use Rattle.mk_rules.specs.Pairs.{IsPair};
 ghost use Rattle.mk_types.specs.Elements.{maps_of};
 ghost use Rattle.mk_unroll.specs.Causes.{Cause};
 ghost use Rattle.mk_place.specs.Different.{AllDifferButRefreshes};
@@ -27,7 +29,7 @@ use std::alloc::Global;
 /// maps.
 pub fn compile(alloc: Global, p: &Typed, order: u8) -> Result<Bundle, SourceRefusal>
     requires order { (1 ≤ order) × (order ≤ TOP_ORDER) }
-    requires maps { length (maps_of p.now.decls) ≤ 32768 }
+    requires maps { length (maps_of p.now.decls) ≤ MOST_MAPS }
 
     // From all shares and all tapes the code gives shares of the program's result.
     ensures correct { IfOk result (λ b. Correct p.now order b.code) }
@@ -41,19 +43,18 @@ pub fn compile(alloc: Global, p: &Typed, order: u8) -> Result<Bundle, SourceRefu
     ensures private { IfOk result (λ b. Private b.code) }
     ensures different { IfOk result (λ b. AllDifferButRefreshes b.cert.blocks) }
 
-    // It has a bundle text.
-    ensures blocks { IfOk result (λ b. length b.cert.blocks ≤ 131072) }
-    ensures claims { IfOk result (λ b. length b.cert.claims ≤ 65536) }
+    // They have a bundle text.
+    ensures pair { IfOk result (λ b. IsPair b.code b.cert) }
 
     // What is compiled stays within the limits, and what is refused has its cause.
     ensures within { OnOk result (IsWithin p.now order) }
     ensures cause { IfErr result (λ e. (e ≡ refusal_.Memory) ⊎ Cause p.now order e) }
 {
-    let _program = p.program();
+    p.law();
     let unrolled = unroll(alloc, p, order)?;
     let values = simplify(alloc, unrolled)?;
     let cert = place(alloc, &values)?;
-    let _fits = values.values();
+    values.law();
     different_law();
     let bundle = bundle_of(alloc, order, &values, cert)?;
     Ok(bundle)

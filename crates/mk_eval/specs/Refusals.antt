@@ -1,10 +1,11 @@
 -- Why a program is not evaluated on these inputs: the first cause in a fixed order. The rules are this
 -- project's own; docs/COMMANDS.md has them in words.
-use Rattle.std.specs.Prelude.{ℕ, not, nat_lt, nat_eq, if◌then◌else◌, List, [], ◌∷◌, Option, Some, None, length, option_map}
-use Rattle.std.specs.List.{position}
-use Rattle.mk_base.specs.declared.Which.{Which}
+use Rattle.std.specs.Prelude.{ℕ, nat_lt, if◌then◌else◌, List, [], ◌∷◌, Option, Some, None, option_map}
+use Rattle.mk_unroll.specs.declared.TheConstants.{MOST_ELEMENTS}
 use Rattle.mk_base.specs.declared.Which.TheVariants as which_
-use Rattle.mk_field.specs.declared.field.FieldId.{FieldId}
+use Rattle.mk_base.specs.declared.inputs.InputRefusal.{InputRefusal}
+use Rattle.mk_base.specs.declared.inputs.InputRefusal.TheVariants as input_
+use Rattle.mk_base.specs.Inputs.{wrong_number, no_element}
 use Rattle.mk_field.specs.Field.{size}
 use Rattle.mk_ast.specs.declared.tree.Program.{Program}
 use Rattle.mk_ast.specs.declared.refusal.Limit.TheVariants as limit_
@@ -22,15 +23,12 @@ first_of (None ∷ xs) = first_of xs
 
 -- the program declares more than 65,536 elements
 abbrev pub too_many_elements : Program → Option EvalRefusal
-too_many_elements p = if nat_lt 65536 (elements_of p) then Some (refusal_.Large limit_.Elements) else None
+too_many_elements p = if nat_lt MOST_ELEMENTS (elements_of p) then Some (refusal_.Large limit_.Elements) else None
 
--- the number of the inputs isn't the wanted one
-abbrev pub wrong_number : List ℕ → ℕ → Option EvalRefusal
-wrong_number inputs wanted = if nat_eq (length inputs) wanted then None else Some (refusal_.Length (length inputs) wanted)
-
--- an input is no element of the field: the first such one
-abbrev pub no_element : FieldId → Which → List ℕ → Option EvalRefusal
-no_element field which inputs = option_map (refusal_.Element which) (position (λ x. not (nat_lt x (size field))) inputs)
+-- why inputs are not taken, as a refusal of the evaluation
+abbrev pub refusal_of_input : InputRefusal → EvalRefusal
+refusal_of_input (input_.Length given wanted) = refusal_.Length given wanted
+refusal_of_input (input_.Element which index) = refusal_.Element which index
 
 -- the refusal that tells where execution stops
 abbrev pub refusal_of_event : Event → EvalRefusal
@@ -38,14 +36,18 @@ refusal_of_event Work = refusal_.Large limit_.Work
 refusal_of_event Operations = refusal_.Large limit_.Operations
 refusal_of_event (Index at) = refusal_.Index at
 
--- why these public inputs and secrets are not taken: too many elements are declared; or the number of the
--- public inputs, or of the secrets, isn't the declared one; or one of them is no element
-abbrev pub inputs_refusal : Program → List ℕ → List ℕ → Option EvalRefusal
-inputs_refusal p publics secrets = first_of (
-    too_many_elements p
-    ∷ wrong_number publics (publics_of p) ∷ wrong_number secrets (secrets_of p)
-    ∷ no_element p.field which_.Public publics ∷ no_element p.field which_.Secret secrets ∷ []
+-- why these are not a program's public inputs and secrets: the number of the public inputs, or of the
+-- secrets, isn't the declared one; or one of them is no element
+abbrev pub given_refusal : Program → List ℕ → List ℕ → Option InputRefusal
+given_refusal p publics secrets = first_of (
+    wrong_number publics (publics_of p) ∷ wrong_number secrets (secrets_of p)
+    ∷ no_element which_.Public (size p.field) publics ∷ no_element which_.Secret (size p.field) secrets ∷ []
     )
+
+-- why these public inputs and secrets are not taken: too many elements are declared, or they are not the
+-- program's
+abbrev pub inputs_refusal : Program → List ℕ → List ℕ → Option EvalRefusal
+inputs_refusal p publics secrets = first_of (too_many_elements p ∷ option_map refusal_of_input (given_refusal p publics secrets) ∷ [])
 
 -- why the program is not evaluated on them, if it is not: they are not taken, or execution stops before its end
 abbrev pub refusal : Program → List ℕ → List ℕ → Option EvalRefusal

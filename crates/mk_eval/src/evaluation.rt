@@ -1,6 +1,7 @@
 //! The evaluation of a program.
 
 ghost use Rattle.std.specs.Prelude.{◌≡◌, ◌⊎◌, ◌^◌, ◌<◌, ◌≤◌, Some, None, IfOk, IfErr, length, option_map};
+ghost use Rattle.mk_unroll.specs.declared.TheConstants.{MOST_ELEMENTS};
 ghost use Rattle.mk_types.specs.Elements.{elements_of};
 ghost use Rattle.mk_types.specs.Meaning.{result as result_of};
 ghost use Rattle.mk_types.specs.Stops.{stop};
@@ -20,7 +21,7 @@ use std::alloc::Global;
 
 /// The values of a program, or why its execution stops.
 fn values_of(alloc: Global, p: &Typed) -> Result<Ssa, EvalRefusal>
-    requires { elements_of p.now ≤ 65536 }
+    requires { elements_of p.now ≤ MOST_ELEMENTS }
     ensures values { IfOk result (λ s. s ≡ unrolled p.now) }
     ensures ends { IfOk result (λ _. stop (units p.now) ≡ None) }
     ensures stops { IfErr result (λ e. (e ≡ refusal_.Memory) ⊎ (option_map refusal_of_event (stop (units p.now)) ≡ Some e)) }
@@ -45,7 +46,7 @@ pub fn eval(alloc: Global, p: &Typed, publics: &[u8], secrets: &[u8]) -> Result<
     requires publics { length publics.now < 2 ^ 32 }
     requires secrets { length secrets.now < 2 ^ 32 }
     ensures outputs { IfOk result (λ outputs. result_of p.now publics.now secrets.now ≡ Some outputs) }
-    ensures few { IfOk result (λ outputs. length outputs ≤ 65536) }
+    ensures few { IfOk result (λ outputs. length outputs ≤ MOST_ELEMENTS) }
     ensures taken { IfOk result (λ _. refusal p.now publics.now secrets.now ≡ None) }
     ensures refused { IfErr result (λ e. (e ≡ refusal_.Memory) ⊎ (refusal p.now publics.now secrets.now ≡ Some e)) }
 {

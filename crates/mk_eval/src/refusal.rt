@@ -1,7 +1,7 @@
 //! Why a program is not evaluated.
 
 use mk_ast::Limit;
-use mk_base::{Memory, Place, Which};
+use mk_base::{InputRefusal, Memory, Place, Which};
 use thiserror::Error;
 
 /// Why a program is not evaluated on its inputs.
@@ -22,6 +22,20 @@ pub enum EvalRefusal {
     /// Memory was wanted and not found.
     #[error("out of memory")]
     Memory,
+}
+
+impl From<InputRefusal> for EvalRefusal {
+    ghost use Rattle.std.specs.Prelude.{◌≡◌};
+    ghost use Rattle.mk_eval.specs.Refusals.{refusal_of_input};
+
+    ghost from_gives = { λ refusal e. e ≡ refusal_of_input refusal };
+
+    fn from(refusal: InputRefusal) -> EvalRefusal {
+        match refusal {
+            InputRefusal::Length { given, wanted } => EvalRefusal::Length { given, wanted },
+            InputRefusal::Element { which, index } => EvalRefusal::Element { which, index },
+        }
+    }
 }
 
 impl From<Memory> for EvalRefusal {

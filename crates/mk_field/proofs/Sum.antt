@@ -1,11 +1,17 @@
 -- Laws of the sum of elements, and of the sum of a list of them.
-use Rattle.std.proofs.Common.{◌≡◌, ℕ, suc, ◌^◌, ◌≤◌, ◌<◌, List, [], ◌∷◌, ◌++◌, length, bit_xor, refl, sym, ◌∙◌, ap, arith}
+use Rattle.std.proofs.Common.{◌≡◌, ℕ, suc, ◌^◌, ◌≤◌, ◌<◌, List, [], ◌∷◌, ◌++◌, length, bit_xor, refl, sym, ◌∙◌, ap, arith, lit<}
 use Rattle.std.specs.Int.Bits.{xor_assoc, xor_self, xor_zero_l, xor_zero_r}
 use Rattle.std.proofs.lemmas.Nat.{xor_comm, xor_lt}
 use Rattle.mk_field.specs.declared.field.FieldId.{FieldId}
+use Rattle.mk_field.specs.declared.field.FieldId.TheVariants.{Gf2, Gf256}
 use Rattle.mk_field.specs.Field.{bits, size}
 use Rattle.mk_field.specs.Sharing.{field_sum, added}
 use Rattle.mk_field.specs.Laws.{SumLaws}
+
+-- 0 is an element
+pub zero-element : (field : FieldId) → 0 < size field
+zero-element Gf2 = lit< tt
+zero-element Gf256 = lit< tt
 
 -- the sum is associative
 pub sum-assoc : (a b c : ℕ) → bit_xor (bit_xor a b) c ≡ bit_xor a (bit_xor b c)

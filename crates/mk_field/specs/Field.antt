@@ -1,6 +1,6 @@
 -- The two fields, after FIPS 197 section 4: elements are numbers below the size, and the sum in both
 -- is exclusive or, `bit_xor`.
-use Rattle.std.specs.Prelude.{◌≡◌, ℕ, zero, suc, ◌*◌, ◌^◌, ◌/◌, ◌%◌, if◌then◌else◌, nat_lt, nat_eq, bit_and, bit_xor, slice_index, refl}
+use Rattle.std.specs.Prelude.{◌≡◌, ℕ, zero, suc, ◌*◌, ◌^◌, ◌/◌, ◌%◌, Bool, true, false, if◌then◌else◌, nat_lt, nat_eq, List, [], bit_and, bit_xor, slice_index, refl}
 use Rattle.mk_field.specs.declared.field.FieldId.{FieldId}
 use Rattle.mk_field.specs.declared.field.FieldId.TheVariants.{Gf2, Gf256}
 use Rattle.mk_field.specs.declared.map.AddMap.{AddMap}
@@ -44,6 +44,16 @@ square field a = product field a a
 -- the image of a byte under an additive map: the sum of the images of its set bits
 abbrev pub image : AddMap → ℕ → ℕ
 image m a = sum_bits 8 (λ i. slice_index m.images i) a
+
+-- whether there are additive maps on the field's elements: on bytes alone
+unfoldable pub has_maps : FieldId → Bool
+has_maps Gf2 = false
+has_maps Gf256 = true
+
+-- there are none of these maps but on bytes
+abbrev pub HasMapsOnlyInBytes : FieldId → List AddMap → Type 0
+HasMapsOnlyInBytes Gf2 maps = maps ≡ []
+HasMapsOnlyInBytes Gf256 maps = Unit {0}
 
 -- {57} times {83} is {c1}, the example of FIPS 197 section 4.2
 pub product-57-83 : product Gf256 0x57 0x83 ≡ 0xc1

@@ -1,5 +1,5 @@
 ghost use Rattle.std.specs.Prelude.{◌≡◌, ◌<◌, ◌↔◌, ℕ, IsTrue, bit_xor};
-ghost use Rattle.mk_field.specs.Field.{size, product, square};
+ghost use Rattle.mk_field.specs.Field.{size, has_maps, product, square};
 
 use crate::powers::product_by_powers;
 
@@ -28,6 +28,17 @@ impl FieldId {
         ensures { IsTrue result ↔ (a < size self) }
     {
         u16::from(a) < self.size()
+    }
+
+    /// Whether there are additive maps on its elements: on bytes alone.
+    #[tactic(auto, unfolding(crate::specs::Field::has_maps))]
+    pub fn has_maps(self) -> bool
+        ensures { result ≡ has_maps self }
+    {
+        match self {
+            FieldId::Gf2 => false,
+            FieldId::Gf256 => true,
+        }
     }
 
     /// The sum of two elements.

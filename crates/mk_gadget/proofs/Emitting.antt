@@ -1,5 +1,5 @@
 -- A gadget in the making: the instructions of the shares so far, and the places of their values.
-use Rattle.std.proofs.Common.{arith, ◌≡◌, ℕ, ◌+◌, ◌-◌, ◌<◌, ◌≤◌, zero, suc, List, [], ◌∷◌, ◌++◌, length, map, take, slice_set, refl, sym, ◌∙◌, ap, subst, append_assoc}
+use Rattle.std.proofs.Common.{arith, ◌≡◌, ℕ, ◌+◌, ◌-◌, ◌<◌, ◌≤◌, List, [], ◌∷◌, ◌++◌, length, map, take, slice_set, refl, sym, ◌∙◌, ap, subst, append_assoc}
 use Rattle.std.specs.List.{range_with_len}
 use Rattle.std.proofs.lemmas.List.{length-append, append-nil, take_more_set, length-set, take_all}
 use Rattle.std.proofs.lemmas.List.FromFn.{length-map-range_with_len, map-range_with_len_more}
@@ -7,17 +7,10 @@ use Rattle.mk_code.specs.declared.instr.Instr.{Instr}
 use Rattle.mk_field.specs.declared.field.FieldId.{FieldId}
 use Rattle.mk_code.specs.Listing.{FitsAt}
 use Rattle.mk_code.specs.Draft.{Draft, draft_len}
+use Rattle.mk_share.proofs.Banks.{range-more}
 use Rattle.mk_gadget.specs.Gadget.{Gadget, placed, placed_outs}
 use Rattle.mk_gadget.specs.Emitted.{Emitted}
 use Rattle.mk_gadget.proofs.Rows.{FitsAt-later}
-
--- one more number
-pub range-more : (a n : ℕ) → range_with_len a (n + 1) ≡ range_with_len a n ++ (a + n) ∷ []
-range-more a zero = let e : a ≡ a + 0 = omega arith in ap (λ (k : ℕ). k ∷ []) e
-range-more a (suc n) =
-    let e : a + 1 + n ≡ a + suc n = omega arith in
-    let one : suc n + 1 ≡ suc (n + 1) = omega arith in
-    ap (range_with_len a) one ∙ ap (λ (xs : List ℕ). a ∷ xs) (range-more (a + 1) n ∙ ap (λ (k : ℕ). range_with_len (a + 1) n ++ k ∷ []) e)
 
 -- of n shares, the first `share` have their instructions, and there is room for the rest
 pub record Emitting (old now : Draft) (row : ℕ → Instr) (n share : ℕ) (regs : List ℕ) : Type 0 where

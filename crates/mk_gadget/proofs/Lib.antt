@@ -1,4 +1,4 @@
-pub mod AddTemplate
+pub mod Ranges
 pub mod Rows
 pub mod Emitting
 pub mod Values

@@ -3,9 +3,8 @@ use Rattle.std.proofs.Common.{arith, ◌≡◌, ◌≢◌, ℕ, zero, suc, ◌<�
 use Rattle.std.proofs.lemmas.Bool.{cases_eq, eq-eqb, ne_eqb}
 use Rattle.mk_field.specs.declared.field.FieldId.{FieldId}
 use Rattle.mk_field.specs.Field.{size}
-use Rattle.mk_field.proofs.Sum.{sum-assoc, sum-comm, sum-interchange, sum-zero_right, sum-in_field}
+use Rattle.mk_field.proofs.Sum.{sum-assoc, sum-comm, sum-interchange, sum-zero_right, sum-in_field, zero-element}
 use Rattle.mk_code.specs.Counting.{AllBelow}
-use Rattle.mk_share.proofs.Encodings.{zero-element}
 use Rattle.mk_gadget.proofs.ShareSums.{share_sum, share_sum-same, share_sum-other}
 
 -- the same start and the same cells of the columns below m but i

@@ -5,8 +5,7 @@ use Rattle.std.proofs.Common.{arith, Bool, true, false, ◌≡◌, ◌≢◌, �
 use Rattle.std.proofs.lemmas.Bool.{cases_Bool, cases_eq, cases_order, eq-eqb, ne_eqb, lt-ltb, le-ltb, true≢false}
 use Rattle.mk_field.specs.declared.field.FieldId.{FieldId}
 use Rattle.mk_field.specs.Field.{size}
-use Rattle.mk_field.proofs.Sum.{sum-self, sum-comm, sum-cancel, sum-cancel_right, sum-zero_left, sum-zero_right, sum-in_field}
-use Rattle.mk_share.proofs.Encodings.{zero-element}
+use Rattle.mk_field.proofs.Sum.{sum-self, sum-comm, sum-cancel, sum-cancel_right, sum-zero_left, sum-zero_right, sum-in_field, zero-element}
 use Rattle.mk_gadget.proofs.ShareSums.{share_sum, share_sum-none}
 use Rattle.mk_gadget.proofs.Mended.{share_sum-congruent, with_column, with_column-here, with_column-other, share_sum-column, share_sum-in_field}
 

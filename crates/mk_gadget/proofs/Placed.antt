@@ -1,5 +1,5 @@
 -- A placed gadget computes what it computes alone, entry by entry.
-use Rattle.std.proofs.Common.{arith, ◌≡◌, ℕ, zero, suc, ◌+◌, ◌<◌, ◌≤◌, List, [], ◌∷◌, ◌++◌, length, map, drop, slice_index, bit_xor, inl, inr, refl, sym, ◌∙◌, ap, subst}
+use Rattle.std.proofs.Common.{arith, ◌≡◌, ℕ, ◌+◌, ◌<◌, ◌≤◌, List, [], ◌∷◌, ◌++◌, length, map, drop, slice_index, bit_xor, inl, inr, refl, sym, ◌∙◌, ap, subst}
 use Rattle.std.proofs.lemmas.Bool.{cases_lt, lt-ltb}
 use Rattle.std.proofs.lemmas.List.{length-append, length-map, get_or_append_left, get_or_push}
 use Rattle.mk_field.specs.declared.field.FieldId.{FieldId}
@@ -13,10 +13,12 @@ use Rattle.mk_code.specs.Counting.{total, one_if_equal, AllBelow}
 use Rattle.mk_code.specs.Private.{observation}
 use Rattle.mk_code.proofs.Totals.{total-same}
 use Rattle.mk_code.proofs.Runs.{length-run}
+use Rattle.mk_code.proofs.Observations.{length-observation, observation-at}
 use Rattle.mk_gadget.specs.Gadget.{Gadget, placement, moved, placed, placed_outs}
 use Rattle.mk_gadget.specs.Steady.{block_view, block_ways}
 use Rattle.mk_gadget.specs.PlacedLaw.{placed_view, PlacedLaw}
-use Rattle.mk_gadget.proofs.AddTemplate.{AllBelow-at, placement-own}
+use Rattle.mk_gadget.proofs.Ranges.{placement-own}
+use Rattle.mk_code.proofs.Steps.{AllBelow-at}
 
 -- a moved instruction takes as many random elements
 takes-moved : (to : ℕ → ℕ) (i : Instr) → takes (moved to i) ≡ takes i
@@ -103,16 +105,6 @@ run-follows field maps count reads base (i ∷ is) tape u v below fit so =
     (sym (takes-moved to i))
     (run-follows field maps count reads base is (drop (takes i) tape) (u ++ a ∷ []) (v ++ b ∷ []) below
     (subst (λ (n : ℕ). AllFit field count n is) left fit.1) (Follows-push reads base a b u v below so same))
-
--- what the entries hold at a list of places
-pub observation-at : (reads entries : List ℕ) (q : ℕ) → q < length reads → slice_index (observation reads entries) q ≡ slice_index entries (slice_index reads q)
-observation-at [] entries q inside = absurd (omega (arith, inside))
-observation-at (r ∷ rs) entries zero inside = refl
-observation-at (r ∷ rs) entries (suc q) inside = observation-at rs entries q (omega (arith, inside))
-
--- how many these are
-pub length-observation : (reads entries : List ℕ) → length (observation reads entries) ≡ length reads
-length-observation reads entries = length-map reads (λ p. slice_index entries p)
 
 -- the state holds the operands
 Follows-start : (reads entries : List ℕ) → Follows reads (length entries) (observation reads entries) entries

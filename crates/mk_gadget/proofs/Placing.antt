@@ -9,7 +9,8 @@ use Rattle.mk_code.specs.Draft.{Draft, draft_len}
 use Rattle.mk_gadget.specs.Gadget.{Gadget, placement, moved, placed_outs}
 use Rattle.mk_gadget.specs.Emitted.{Emitted}
 use Rattle.mk_gadget.specs.Pairs.{pairs}
-use Rattle.mk_gadget.proofs.AddTemplate.{AllBelow-at, placement-own}
+use Rattle.mk_gadget.proofs.Ranges.{placement-own}
+use Rattle.mk_code.proofs.Steps.{AllBelow-at}
 use Rattle.mk_gadget.proofs.Pairs.{twice-pairs}
 
 -- these instructions, with their places moved, are appended, and there is room for `total` in all

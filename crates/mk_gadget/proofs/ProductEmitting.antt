@@ -12,7 +12,7 @@ use Rattle.mk_gadget.specs.Gadget.{placement, moved}
 use Rattle.mk_gadget.specs.Emitted.{Emitted}
 use Rattle.mk_gadget.specs.Pairs.{Pair, pairs_upto, pairs, pair_number, others}
 use Rattle.mk_gadget.specs.Product.{pair_place, cell_place, row_place, sum_place, product_pair, product_row, product_gadget}
-use Rattle.mk_gadget.proofs.AddTemplate.{map-map-range, placement-left, placement-right}
+use Rattle.mk_gadget.proofs.Ranges.{map-map-range, placement-left, placement-right}
 use Rattle.mk_gadget.proofs.Values.{two-banks}
 use Rattle.mk_gadget.proofs.Pairs.{pair, pairs_before, length-pairs_before, pairs_before-none, pairs_before-more, pairs_before-all, pair_number-below, others-same, others-other, length-others_low, length-others_high}
 use Rattle.mk_gadget.proofs.Blocks.{length-blocks, blocks-more}

@@ -91,7 +91,7 @@ IsKept p r (Cross i j) = (r.x i ≡ r.x2 i) × (r.y j ≡ r.y2 j)
 IsKept p r (Half i j) = bit_xor (move p i j) (p.gap i j) ≡ 0
 IsKept p r (Sum i m) = (p.is_row i ≡ true) × (r.x i ≡ r.x2 i) × (r.y i ≡ r.y2 i)
 
--- it does
+-- an instruction that is kept so has the same value in both states
 pub value-kept : (field : FieldId) (p : Plan) (r : Runs) (label : ProductLabel) → AreMoved field p r → IsProductLabel p.shares label → IsKept p r label
     → before field r label ≡ after field r label
 value-kept field p r (Cell i j) moved fits kept = cell-kept field p r i j moved fits.0 fits.1 fits.2 kept

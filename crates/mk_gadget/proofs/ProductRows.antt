@@ -15,7 +15,7 @@ use Rattle.mk_code.specs.Trace.{run, randoms, entry}
 use Rattle.mk_code.proofs.Runs.{run-append, run-push, randoms-append}
 use Rattle.mk_gadget.specs.Pairs.{pairs, others}
 use Rattle.mk_gadget.specs.Product.{cell_place, row_place, sum_place, product_pair, product_row, product_gadget}
-use Rattle.mk_gadget.proofs.Emitting.{range-more}
+use Rattle.mk_share.proofs.Banks.{range-more}
 use Rattle.mk_gadget.proofs.Pairs.{pair, pairs-induct, others-same, others-other, length-others_high}
 use Rattle.mk_gadget.proofs.Blocks.{length-blocks, blocks-at, blocks-more, map-blocks-more, old, own, run-next, run-done, randoms-blocks, AllFit-append, Each, each-none, each-cons, each-append}
 use Rattle.mk_gadget.proofs.ShareSums.{share_sum, share_sum-other, share_sum-at}

@@ -12,7 +12,7 @@ use Rattle.mk_gadget.specs.Gadget.{placement}
 use Rattle.mk_gadget.specs.Emitted.{Emitted}
 use Rattle.mk_gadget.specs.Pairs.{Pair, pairs_upto, pairs, pair_number}
 use Rattle.mk_gadget.specs.Refresh.{refresh_random, refresh_sum, refresh_pair, refresh_gadget}
-use Rattle.mk_gadget.proofs.AddTemplate.{map-map-range}
+use Rattle.mk_gadget.proofs.Ranges.{map-map-range}
 use Rattle.mk_gadget.proofs.Values.{placement-only}
 use Rattle.mk_gadget.proofs.Pairs.{pair, pairs_before, length-pairs_before, pairs_before-none, pairs_before-more, pairs_before-all, pair_number-below}
 use Rattle.mk_gadget.proofs.Blocks.{length-blocks, blocks-more}
@@ -111,7 +111,7 @@ pub record AreBefore (now : Draft) (regs : List ℕ) (i j : ℕ) : Type 0 where
   pub first : slice_index regs i < draft_len now
   pub second : slice_index regs j < draft_len now
 
--- always
+-- they do while pairs are appended
 pub Refreshing-before : (old now : Draft) (xs regs : List ℕ) (n i j : ℕ) → Refreshing old now xs regs n i j → i < j → j < n → length xs ≡ n
     → AllBelow (draft_len old) xs → AreBefore now regs i j
 Refreshing-before old now xs regs n i j so less high count below =

@@ -10,12 +10,11 @@ use Rattle.mk_field.specs.declared.field.FieldId.{FieldId}
 use Rattle.mk_field.specs.declared.map.AddMap.{AddMap}
 use Rattle.mk_field.specs.Field.{size}
 use Rattle.mk_field.specs.Sharing.{added}
-use Rattle.mk_field.proofs.Sum.{sum-self, sum-comm, sum-assoc, sum-zero_left, sum-in_field}
+use Rattle.mk_field.proofs.Sum.{sum-self, sum-comm, sum-assoc, sum-zero_left, sum-in_field, zero-element}
 use Rattle.mk_code.specs.Trace.{run}
 use Rattle.mk_code.specs.Counting.{AllBelow}
 use Rattle.mk_code.specs.Private.{observation}
 use Rattle.mk_code.proofs.LeftOut.{IsLeftOut, left_out}
-use Rattle.mk_share.proofs.Encodings.{zero-element}
 use Rattle.mk_gadget.specs.Pairs.{Pair, pairs, pair_number}
 use Rattle.mk_gadget.specs.Refresh.{refresh_sum, refresh_gadget}
 use Rattle.mk_gadget.specs.Steady.{block_view, IsStrong}

@@ -7,17 +7,16 @@ use Rattle.mk_field.specs.declared.field.FieldId.{FieldId}
 use Rattle.mk_field.specs.declared.map.AddMap.{AddMap}
 use Rattle.mk_field.specs.Field.{size, product, square}
 use Rattle.mk_field.specs.Sharing.{field_sum}
-use Rattle.mk_field.proofs.Sum.{sum-in_field, sum-zero_right}
+use Rattle.mk_field.proofs.Sum.{sum-in_field, sum-zero_right, zero-element}
 use Rattle.mk_code.specs.declared.instr.Instr.{Instr}
 use Rattle.mk_code.specs.declared.instr.Instr.TheVariants.{Rnd, Const, Copy, Add, Mul, Sq, Map}
 use Rattle.mk_code.specs.Listing.{FitsAt}
 use Rattle.mk_code.specs.Trace.{run, entry, takes, image_by}
 use Rattle.mk_code.specs.Counting.{AllBelow}
 use Rattle.mk_code.specs.Private.{observation}
-use Rattle.mk_share.proofs.Encodings.{zero-element}
 use Rattle.mk_gadget.specs.Gadget.{Gadget, placed, placed_outs}
 use Rattle.mk_gadget.specs.Emitted.{Gives}
-use Rattle.mk_gadget.proofs.AddTemplate.{map-range-same, observed-behind}
+use Rattle.mk_gadget.proofs.Ranges.{map-range-same, observed-behind}
 
 -- what takes no random element has the same value over any tape, and with more entries behind
 pub entry-stable : (field : FieldId) (maps : List AddMap) (m : ℕ) (i : Instr) (word other : ℕ) (entries more : List ℕ)
@@ -37,6 +36,7 @@ entry-stable field maps m (Mul left right) word other entries more fits none =
 entry-stable field maps m (Sq from) word other entries more fits none = ap (square field) (get_or_append_left entries more 0 from fits)
 entry-stable field maps m (Map map from) word other entries more fits none = ap (image_by maps map) (get_or_append_left entries more 0 from fits.1)
 
+-- what takes no random element has the same value over any tape
 pub entry-any : (field : FieldId) (maps : List AddMap) (i : Instr) (word other : ℕ) (entries : List ℕ)
     → takes i ≡ 0 → entry field maps i word entries ≡ entry field maps i other entries
 entry-any field maps Rnd word other entries none = absurd (omega (arith, none))
@@ -47,6 +47,7 @@ entry-any field maps (Mul left right) word other entries none = refl
 entry-any field maps (Sq from) word other entries none = refl
 entry-any field maps (Map map from) word other entries none = refl
 
+-- an instruction that fits behind some entries fits behind more of them
 pub FitsAt-later : (field : FieldId) (m len more : ℕ) (i : Instr) → len ≤ more → FitsAt field m len i → FitsAt field m more i
 FitsAt-later field m len more Rnd le fits = tt
 FitsAt-later field m len more (Const value) le fits = fits
@@ -136,11 +137,12 @@ abbrev pub first : ℕ → ℕ → ℕ
 first q zero = q
 first q (suc i) = 0
 
+-- behind the first of them stand zeros
 first-later : (q i : ℕ) → 1 ≤ i → first q i ≡ 0
 first-later q zero later = absurd (omega (arith, later))
 first-later q (suc i) later = refl
 
--- their sum is the value
+-- a value and zeros behind it have that value as sum
 pub field_sum-first : (q n : ℕ) → 1 ≤ n → field_sum (map (first q) (range_with_len 0 n)) ≡ q
 unfolding field_sum
 field_sum-first q zero least = absurd (omega (arith, least))

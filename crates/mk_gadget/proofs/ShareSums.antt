@@ -7,7 +7,7 @@ use Rattle.std.proofs.lemmas.List.FromFn.{map-range_with_len_more}
 use Rattle.mk_field.specs.Sharing.{field_sum}
 use Rattle.mk_field.proofs.Sum.{sum-assoc, sum-comm, sum-interchange, sum-zero_right, field_sum-append}
 use Rattle.mk_gadget.specs.Pairs.{others}
-use Rattle.mk_gadget.proofs.AddTemplate.{map-range-same, field_sum-sums}
+use Rattle.mk_gadget.proofs.Ranges.{map-range-same, field_sum-sums}
 
 -- `start` plus the cells of the columns below m but column i
 unfoldable pub share_sum : ℕ → (ℕ → ℕ) → ℕ → ℕ → ℕ

@@ -22,7 +22,7 @@ use Rattle.mk_ssa.specs.Kinds.{Strong, kind, shared_operands, public_operands}
 use Rattle.mk_gadget.specs.Gadget.{Gadget}
 use Rattle.mk_gadget.specs.Template.{single, rows, lift, addition, public_addition, scaling, squaring, mapping, template}
 use Rattle.mk_gadget.specs.Steady.{block_view, block_ways, IsSteady}
-use Rattle.mk_gadget.proofs.AddTemplate.{observed-behind}
+use Rattle.mk_gadget.proofs.Ranges.{observed-behind}
 use Rattle.mk_gadget.proofs.Rows.{Still, run-rows}
 
 -- the instruction reads only places of these, and isn't random
@@ -56,7 +56,7 @@ entry-same field maps Own (Sq from) u v same reads = ap (square field) (same fro
 entry-same field maps Own (Map map from) u v same reads = ap (image_by maps map) (same from reads)
 
 -- a share of one of m operands stands among the shares
-share-inside : (n m k i : ℕ) → k < m → i < n → n * k + i < n * m
+pub share-inside : (n m k i : ℕ) → k < m → i < n → n * k + i < n * m
 share-inside n m k i first below =
     let step : n * (k + 1) ≤ n * m = mul-le-mul_left n (omega (arith, first)) in
     omega (arith, step, below)

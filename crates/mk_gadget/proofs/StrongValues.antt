@@ -19,10 +19,12 @@ use Rattle.mk_gadget.specs.Emitted.{Gives, shared_at}
 use Rattle.mk_gadget.specs.Pairs.{pairs, pair_number}
 use Rattle.mk_gadget.specs.Refresh.{refresh_sum, refresh_gadget}
 use Rattle.mk_gadget.specs.Product.{sum_place, product_gadget}
-use Rattle.mk_gadget.proofs.AddTemplate.{map-range-same, map-map-range, AllBelow-at}
+use Rattle.mk_gadget.proofs.Ranges.{map-range-same, map-map-range}
+use Rattle.mk_code.proofs.Steps.{AllBelow-at}
 use Rattle.mk_gadget.proofs.Rows.{field_sum-additive}
 use Rattle.mk_gadget.proofs.Values.{two-banks}
-use Rattle.mk_gadget.proofs.Placed.{PlacedLaw-holds, observation-at, length-observation}
+use Rattle.mk_gadget.proofs.Placed.{PlacedLaw-holds}
+use Rattle.mk_code.proofs.Observations.{length-observation, observation-at}
 use Rattle.mk_gadget.proofs.Blocks.{old, own}
 use Rattle.mk_gadget.proofs.ShareSums.{share_sum, share_sum-none, share_sum-all, share_sums-same, sum_upto, sum_upto-same}
 use Rattle.mk_gadget.proofs.RefreshRun.{random_of, random_of-comm, refresh_sum-below, all-done, refresh-fits, length-refresh, refresh-out}

@@ -8,37 +8,42 @@ use Rattle.mk_field.specs.declared.field.FieldId.{FieldId}
 use Rattle.mk_field.specs.declared.map.AddMap.{AddMap}
 use Rattle.mk_field.specs.Field.{size, product, square}
 use Rattle.mk_field.specs.Sharing.{field_sum}
-use Rattle.mk_field.proofs.Sum.{sum-zero_right}
+use Rattle.mk_field.proofs.Sum.{sum-zero_right, zero-element}
 use Rattle.mk_field.proofs.Product.{product-sum_left, product-zero_left, square-sum, image-sum, image-zero}
 use Rattle.mk_code.specs.declared.instr.Instr.{Instr}
 use Rattle.mk_code.specs.declared.instr.Instr.TheVariants.{Const, Copy, Add, Mul, Sq, Map}
 use Rattle.mk_code.specs.Listing.{FitsAt}
 use Rattle.mk_code.specs.Trace.{entry, takes, image_by}
 use Rattle.mk_code.specs.Counting.{AllBelow}
-use Rattle.mk_share.proofs.Encodings.{zero-element}
 use Rattle.mk_gadget.specs.Gadget.{placement, moved, placed}
 use Rattle.mk_gadget.specs.Emitted.{Gives, shared_at}
 use Rattle.mk_gadget.specs.Template.{addition, public_addition, scaling, squaring, mapping, lift}
-use Rattle.mk_gadget.proofs.AddTemplate.{map-range-same, map-map-range, range-moved, placement-left, placement-right, placement-own, observed-by_index, field_sum-sums, AllBelow-at}
+use Rattle.mk_gadget.proofs.Ranges.{map-range-same, map-map-range, range-moved, placement-left, placement-right, placement-own, observed-by_index, field_sum-sums}
+use Rattle.mk_code.proofs.Steps.{AllBelow-at}
 use Rattle.mk_gadget.proofs.Rows.{rows-give, field_sum-additive, first, field_sum-first}
 
--- the rows, by the banks of the operands
+-- the rows, by the banks of the operands: here the two shares of a row are added
 abbrev pub addition-row : List ℕ → List ℕ → ℕ → Instr
 addition-row xs ys i = Add (slice_index xs i) (slice_index ys i)
 
+-- the public value is added to share 0, and the other shares are copied
 abbrev pub public_addition-row : List ℕ → ℕ → ℕ → Instr
 public_addition-row xs p zero = Add (slice_index xs 0) p
 public_addition-row xs p (suc i) = Copy (slice_index xs (suc i))
 
+-- each share is multiplied by the public value
 abbrev pub scaling-row : List ℕ → ℕ → ℕ → Instr
 scaling-row xs p i = Mul (slice_index xs i) p
 
+-- each share is squared
 abbrev pub squaring-row : List ℕ → ℕ → Instr
 squaring-row xs i = Sq (slice_index xs i)
 
+-- each share goes through the map
 abbrev pub mapping-row : ℕ → List ℕ → ℕ → Instr
 mapping-row map xs i = Map map (slice_index xs i)
 
+-- share 0 is the public value, and the others are zero
 abbrev pub lift-row : ℕ → ℕ → Instr
 lift-row p zero = Copy p
 lift-row p (suc i) = Const 0
@@ -61,13 +66,15 @@ outs-behind reads base k n count =
     (λ i low high. placement-own reads base i (omega (arith, low, count)) ∙ ap (λ (j : ℕ). base + (i - j)) count)
     ∙ range-moved k base n
 
--- two banks, and a bank and a place, have so many places
+-- two banks of n shares have 2 n places
 pub two-banks : (xs ys : List ℕ) (n : ℕ) → length xs ≡ n → length ys ≡ n → length (xs ++ ys) ≡ 2 * n
 two-banks xs ys n left right = omega (arith, length-append xs ys, left, right)
 
+-- a bank of n shares and a public place have n + 1 places
 pub bank-and-one : (xs : List ℕ) (p n : ℕ) → length xs ≡ n → length (xs ++ p ∷ []) ≡ n + 1
 bank-and-one xs p n count = omega (arith, length-append xs (p ∷ []), count)
 
+-- the sum of two shared values, placed, has these rows
 pub addition-placed : (n base : ℕ) (xs ys : List ℕ) → length xs ≡ n → length ys ≡ n
     → placed (xs ++ ys) base (addition n) ≡ map (addition-row xs ys) (range_with_len 0 n)
 addition-placed n base xs ys left right =
@@ -77,6 +84,7 @@ addition-placed n base xs ys left right =
     ap (λ (a : ℕ). Add a (placement (xs ++ ys) base (n + i))) (placement-left xs ys base n i left (omega (arith, high)))
     ∙ ap (λ (b : ℕ). Add (slice_index xs i) b) (placement-right xs ys base n i left right (omega (arith, high))))
 
+-- an instruction of a public addition, placed, is its row
 public_addition-moved : (n base : ℕ) (xs : List ℕ) (p : ℕ) → length xs ≡ n → (i : ℕ) → i < n
     → moved (placement (xs ++ p ∷ []) base) (if nat_eq i 0 then Add 0 n else Copy i) ≡ public_addition-row xs p i
 public_addition-moved n base xs p count zero below =
@@ -84,6 +92,7 @@ public_addition-moved n base xs p count zero below =
     ∙ ap (λ (b : ℕ). Add (slice_index xs 0) b) (placement-public xs p base n count)
 public_addition-moved n base xs p count (suc i) below = rw (eqb-suc-zero i) (ap Copy (placement-left xs (p ∷ []) base n (suc i) count below))
 
+-- a public addition, placed, has these rows
 pub public_addition-placed : (n base : ℕ) (xs : List ℕ) (p : ℕ) → length xs ≡ n
     → placed (xs ++ p ∷ []) base (public_addition n) ≡ map (public_addition-row xs p) (range_with_len 0 n)
 public_addition-placed n base xs p count =
@@ -91,10 +100,12 @@ public_addition-placed n base xs p count =
     ∙ map-range-same (λ i. moved (placement (xs ++ p ∷ []) base) (if nat_eq i 0 then Add 0 n else Copy i)) (public_addition-row xs p) 0 n
     (λ i low high. public_addition-moved n base xs p count i (omega (arith, high)))
 
+-- the rows behind the first copy their shares
 pub public_addition-later : (xs : List ℕ) (p i : ℕ) → 1 ≤ i → Copy (slice_index xs i) ≡ public_addition-row xs p i
 public_addition-later xs p zero later = absurd (omega (arith, later))
 public_addition-later xs p (suc i) later = refl
 
+-- a scaling, placed, has these rows
 pub scaling-placed : (n base : ℕ) (xs : List ℕ) (p : ℕ) → length xs ≡ n
     → placed (xs ++ p ∷ []) base (scaling n) ≡ map (scaling-row xs p) (range_with_len 0 n)
 scaling-placed n base xs p count =
@@ -104,28 +115,33 @@ scaling-placed n base xs p count =
     ap (λ (a : ℕ). Mul a (placement (xs ++ p ∷ []) base n)) (placement-left xs (p ∷ []) base n i count (omega (arith, high)))
     ∙ ap (λ (b : ℕ). Mul (slice_index xs i) b) (placement-public xs p base n count))
 
+-- a squaring, placed, has these rows
 pub squaring-placed : (n base : ℕ) (xs : List ℕ) → length xs ≡ n → placed xs base (squaring n) ≡ map (squaring-row xs) (range_with_len 0 n)
 squaring-placed n base xs count =
     map-map-range (moved (placement xs base)) (λ i. Sq i) 0 n
     ∙ map-range-same (λ i. moved (placement xs base) (Sq i)) (squaring-row xs) 0 n
     (λ i low high. ap Sq (placement-only xs base i (omega (arith, high, count))))
 
+-- a mapping, placed, has these rows
 pub mapping-placed : (n base m : ℕ) (xs : List ℕ) → length xs ≡ n → placed xs base (mapping n m) ≡ map (mapping-row m xs) (range_with_len 0 n)
 mapping-placed n base m xs count =
     map-map-range (moved (placement xs base)) (λ i. Map m i) 0 n
     ∙ map-range-same (λ i. moved (placement xs base) (Map m i)) (mapping-row m xs) 0 n
     (λ i low high. ap (Map m) (placement-only xs base i (omega (arith, high, count))))
 
+-- the rows behind the first are zero
 pub lift-later : (p i : ℕ) → 1 ≤ i → Const 0 ≡ lift-row p i
 lift-later p zero later = absurd (omega (arith, later))
 lift-later p (suc i) later = refl
 
+-- the zeros of a lift are its rows behind the first
 lift-zeros : (to : ℕ → ℕ) (p a n : ℕ) → 1 ≤ a → map (moved to) (replicate n (Const 0)) ≡ map (lift-row p) (range_with_len a n)
 lift-zeros to p a zero least = refl
 lift-zeros to p a (suc n) least =
     ap (λ (x : Instr). x ∷ map (moved to) (replicate n (Const 0))) (lift-later p a least)
     ∙ ap (λ (xs : List Instr). lift-row p a ∷ xs) (lift-zeros to p (a + 1) n (omega (arith, least)))
 
+-- a lift, placed, has these rows
 pub lift-placed : (n base p : ℕ) → 1 ≤ n → placed (p ∷ []) base (lift n) ≡ map (lift-row p) (range_with_len 0 n)
 lift-placed zero base p least = absurd (omega (arith, least))
 lift-placed (suc n) base p least =
@@ -137,14 +153,17 @@ lift-placed (suc n) base p least =
 abbrev at : List ℕ → List ℕ → ℕ → ℕ
 at entries xs i = slice_index entries (slice_index xs i)
 
+-- what stands at the places of the shares has the shared value as sum
 at-sum : (entries xs : List ℕ) (n : ℕ) → length xs ≡ n → field_sum (map (at entries xs) (range_with_len 0 n)) ≡ shared_at xs entries
 at-sum entries xs n count = ap field_sum (sym (observed-by_index entries xs n count))
 
+-- what stands at the place of a share is an element of the field
 at-element : (field : FieldId) (entries xs : List ℕ) (n base : ℕ) → length xs ≡ n → AllBelow base xs → length entries ≡ base → AllBelow (size field) entries
     → (i : ℕ) → 0 ≤ i → i < 0 + n → at entries xs i < size field
 at-element field entries xs n base count here len elements i low high =
     AllBelow-at (size field) entries (slice_index xs i) elements (omega (arith, AllBelow-at base xs i here (omega (arith, high, count)), len))
 
+-- the sum of two shared values, placed, gives the sum of both
 pub addition-gives : (field : FieldId) (maps : List AddMap) (n base : ℕ) (xs ys : List ℕ) → length xs ≡ n → length ys ≡ n → AllBelow base xs → AllBelow base ys
     → Gives field maps n base (xs ++ ys) (addition n) (λ entries. bit_xor (shared_at xs entries) (shared_at ys entries))
 addition-gives field maps n base xs ys left right here there =
@@ -156,16 +175,19 @@ addition-gives field maps n base xs ys left right here there =
     ∙ ap (λ (a : ℕ). bit_xor a (field_sum (map (at entries ys) (range_with_len 0 n)))) (at-sum entries xs n left)
     ∙ ap (bit_xor (shared_at xs entries)) (at-sum entries ys n right))
 
+-- the rows of a public addition read only what stands before them, and take no random element
 public_addition-still : (field : FieldId) (m n base : ℕ) (xs : List ℕ) (p : ℕ) → length xs ≡ n → AllBelow base xs → p < base
     → (i : ℕ) → i < n → FitsAt field m base (public_addition-row xs p i) × (takes (public_addition-row xs p i) ≡ 0)
 public_addition-still field m n base xs p count here there zero below = ((AllBelow-at base xs 0 here (omega (arith, below, count)), there), refl)
 public_addition-still field m n base xs p count here there (suc i) below = (AllBelow-at base xs (suc i) here (omega (arith, below, count)), refl)
 
+-- such a row has its share as value, to which the public value is added in the first
 public_addition-entry : (field : FieldId) (maps : List AddMap) (entries xs : List ℕ) (p i : ℕ)
     → entry field maps (public_addition-row xs p i) 0 entries ≡ bit_xor (at entries xs i) (first (slice_index entries p) i)
 public_addition-entry field maps entries xs p zero = refl
 public_addition-entry field maps entries xs p (suc i) = sym (sum-zero_right (at entries xs (suc i)))
 
+-- a public addition, placed, gives the shared value plus the public one
 pub public_addition-gives : (field : FieldId) (maps : List AddMap) (n base : ℕ) (xs : List ℕ) (p : ℕ) → 1 ≤ n → length xs ≡ n → AllBelow base xs → p < base
     → Gives field maps n base (xs ++ p ∷ []) (public_addition n) (λ entries. bit_xor (shared_at xs entries) (slice_index entries p))
 public_addition-gives field maps n base xs p least count here there =
@@ -180,6 +202,7 @@ public_addition-gives field maps n base xs p least count here there =
     ∙ ap (λ (a : ℕ). bit_xor a (field_sum (map (first q) (range_with_len 0 n)))) (at-sum entries xs n count)
     ∙ ap (bit_xor (shared_at xs entries)) (field_sum-first q n least))
 
+-- a scaling, placed, gives the shared value times the public one
 pub scaling-gives : (field : FieldId) (maps : List AddMap) (n base : ℕ) (xs : List ℕ) (p : ℕ) → length xs ≡ n → AllBelow base xs → p < base
     → Gives field maps n base (xs ++ p ∷ []) (scaling n) (λ entries. product field (shared_at xs entries) (slice_index entries p))
 scaling-gives field maps n base xs p count here there =
@@ -192,6 +215,7 @@ scaling-gives field maps n base xs p count here there =
     (at-element field entries xs n base count here len elements)
     ∙ ap (λ (a : ℕ). product field a q) (at-sum entries xs n count))
 
+-- a squaring, placed, gives the square of the shared value
 pub squaring-gives : (field : FieldId) (maps : List AddMap) (n base : ℕ) (xs : List ℕ) → length xs ≡ n → AllBelow base xs
     → Gives field maps n base xs (squaring n) (λ entries. square field (shared_at xs entries))
 squaring-gives field maps n base xs count here =
@@ -203,6 +227,7 @@ squaring-gives field maps n base xs count here =
     (at-element field entries xs n base count here len elements)
     ∙ ap (square field) (at-sum entries xs n count))
 
+-- a mapping, placed, gives the image of the shared value under the map
 pub mapping-gives : (field : FieldId) (maps : List AddMap) (n base m : ℕ) (xs : List ℕ) → m < length maps → length xs ≡ n → AllBelow base xs
     → Gives field maps n base xs (mapping n m) (λ entries. image_by maps m (shared_at xs entries))
 mapping-gives field maps n base m xs there count here =
@@ -214,14 +239,17 @@ mapping-gives field maps n base m xs there count here =
     (at-element field entries xs n base count here len elements)
     ∙ ap (image_by maps m) (at-sum entries xs n count))
 
+-- the rows of a lift read only what stands before them, and take no random element
 lift-still : (field : FieldId) (base p : ℕ) → p < base → (i : ℕ) → FitsAt field 0 base (lift-row p i) × (takes (lift-row p i) ≡ 0)
 lift-still field base p there zero = (there, refl)
 lift-still field base p there (suc i) = (zero-element field, refl)
 
+-- such a row has the public value in the first place, and zero in the others
 lift-entry : (field : FieldId) (maps : List AddMap) (entries : List ℕ) (p i : ℕ) → entry field maps (lift-row p i) 0 entries ≡ first (slice_index entries p) i
 lift-entry field maps entries p zero = refl
 lift-entry field maps entries p (suc i) = refl
 
+-- a lift, placed, gives the public value
 pub lift-gives : (field : FieldId) (maps : List AddMap) (n base p : ℕ) → 1 ≤ n → p < base
     → Gives field maps n base (p ∷ []) (lift n) (λ entries. slice_index entries p)
 lift-gives field maps n base p least there =

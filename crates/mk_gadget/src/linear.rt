@@ -1,6 +1,7 @@
 //! Emitters of linear gadgets.
 
 ghost use Rattle.std.specs.Prelude.{◌≡◌, ◌≤◌, ◌<◌, ◌+◌, ◌++◌, List, [], ◌∷◌, length, bit_xor, slice_index, IfOk, OnErr};
+ghost use Rattle.mk_code.specs.declared.TheConstants.{MOST_INSTRS};
 ghost use Rattle.mk_field.specs.declared.map.AddMap.{AddMap};
 ghost use Rattle.mk_field.specs.Field.{product, square};
 ghost use Rattle.mk_code.specs.Counting.{AllBelow};
@@ -28,7 +29,7 @@ pub fn emit_add<F: Field, const N: usize>(
 ) -> Result<Bank<N>, Memory>
     requires least { 2 ≤ N }
     requires order { builder.old.order + 1 ≡ N }
-    requires few { length builder.old.instrs + N ≤ 8388608 }
+    requires few { length builder.old.instrs + N ≤ MOST_INSTRS }
     requires left { AllBelow (draft_len builder.old) x.now.regs }
     requires right { AllBelow (draft_len builder.old) y.now.regs }
     ensures emitted { IfOk result (λ bank. Emitted builder.old builder.new (x.now.regs ++ y.now.regs) (addition N) bank.regs) }
@@ -58,7 +59,7 @@ pub fn emit_add_public<F: Field, const N: usize>(
 ) -> Result<Bank<N>, Memory>
     requires least { 2 ≤ N }
     requires order { builder.old.order + 1 ≡ N }
-    requires few { length builder.old.instrs + N ≤ 8388608 }
+    requires few { length builder.old.instrs + N ≤ MOST_INSTRS }
     requires shared { AllBelow (draft_len builder.old) x.now.regs }
     requires public { p < draft_len builder.old }
     ensures emitted { IfOk result (λ bank. Emitted builder.old builder.new (x.now.regs ++ p ∷ []) (public_addition N) bank.regs) }
@@ -90,7 +91,7 @@ pub fn emit_scale_public<F: Field, const N: usize>(
 ) -> Result<Bank<N>, Memory>
     requires least { 2 ≤ N }
     requires order { builder.old.order + 1 ≡ N }
-    requires few { length builder.old.instrs + N ≤ 8388608 }
+    requires few { length builder.old.instrs + N ≤ MOST_INSTRS }
     requires shared { AllBelow (draft_len builder.old) x.now.regs }
     requires public { p < draft_len builder.old }
     ensures emitted { IfOk result (λ bank. Emitted builder.old builder.new (x.now.regs ++ p ∷ []) (scaling N) bank.regs) }
@@ -117,7 +118,7 @@ pub fn emit_sq<F: Field, const N: usize>(
 ) -> Result<Bank<N>, Memory>
     requires least { 2 ≤ N }
     requires order { builder.old.order + 1 ≡ N }
-    requires few { length builder.old.instrs + N ≤ 8388608 }
+    requires few { length builder.old.instrs + N ≤ MOST_INSTRS }
     requires shared { AllBelow (draft_len builder.old) x.now.regs }
     ensures emitted { IfOk result (λ bank. Emitted builder.old builder.new x.now.regs (squaring N) bank.regs) }
     ensures value { IfOk result (λ bank. Gives F.ID builder.old.maps N (draft_len builder.old) x.now.regs (squaring N) (λ entries. square F.ID (shared_at x.now.regs entries))) }
@@ -144,7 +145,7 @@ pub fn emit_map<F: Field, const N: usize>(
 ) -> Result<Bank<N>, Memory>
     requires least { 2 ≤ N }
     requires order { builder.old.order + 1 ≡ N }
-    requires few { length builder.old.instrs + N ≤ 8388608 }
+    requires few { length builder.old.instrs + N ≤ MOST_INSTRS }
     requires map { map < length builder.old.maps }
     requires shared { AllBelow (draft_len builder.old) x.now.regs }
     ensures emitted { IfOk result (λ bank. Emitted builder.old builder.new x.now.regs (mapping N map) bank.regs) }
@@ -172,7 +173,7 @@ pub fn emit_lift<F: Field, const N: usize>(
 ) -> Result<Bank<N>, Memory>
     requires least { 2 ≤ N }
     requires order { builder.old.order + 1 ≡ N }
-    requires few { length builder.old.instrs + N ≤ 8388608 }
+    requires few { length builder.old.instrs + N ≤ MOST_INSTRS }
     requires public { p < draft_len builder.old }
     ensures emitted { IfOk result (λ bank. Emitted builder.old builder.new (p ∷ []) (lift N) bank.regs) }
     ensures value { IfOk result (λ bank. Gives F.ID builder.old.maps N (draft_len builder.old) (p ∷ []) (lift N) (λ entries. slice_index entries p)) }

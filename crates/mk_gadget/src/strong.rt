@@ -1,6 +1,7 @@
 //! Emitters of the refresh and of the product of two shared values.
 
 ghost use Rattle.std.specs.Prelude.{◌≡◌, ◌≢◌, ◌≤◌, ◌<◌, ◌+◌, ◌*◌, ◌^◌, ◌++◌, List, length, IfOk, OnErr};
+ghost use Rattle.mk_code.specs.declared.TheConstants.{MOST_INSTRS};
 ghost use Rattle.mk_field.specs.declared.map.AddMap.{AddMap};
 ghost use Rattle.mk_field.specs.Field.{product};
 ghost use Rattle.mk_code.specs.Counting.{AllBelow};
@@ -17,33 +18,6 @@ use mk_base::Memory;
 use mk_code::{CodeBuilder, Instr};
 use mk_field::Field;
 use mk_share::Bank;
-
-/// One more entry is added to a sum.
-macro_rules! partial_sum {
-    ($builder:ident, $sum:expr, $entry:expr) => {
-        $sum = $builder.push(Instr::Add {
-            left: $sum,
-            right: $entry,
-        })
-    };
-}
-
-/// The cells of two shares: a random element, and its sum with both cross products.
-macro_rules! cross_products {
-    ($builder:ident, $x:ident, $y:ident, $i:ident, $j:ident) => {
-        let mut sum = $builder.push(Instr::Rnd);
-        let product = $builder.push(Instr::Mul {
-            left: $x.regs[$i],
-            right: $y.regs[$j],
-        });
-        partial_sum!($builder, sum, product);
-        let other = $builder.push(Instr::Mul {
-            left: $x.regs[$j],
-            right: $y.regs[$i],
-        });
-        partial_sum!($builder, sum, other);
-    };
-}
 
 /// How many pairs of `N` shares have their first before this share.
 fn pairs_before<const N: usize>(share: usize) -> usize
@@ -93,7 +67,7 @@ pub fn emit_refresh<F: Field, const N: usize>(
 ) -> Result<Bank<N>, Memory>
     requires least { 2 ≤ N }
     requires order { builder.old.order + 1 ≡ N }
-    requires few { length builder.old.instrs + length (refresh_gadget N).instrs ≤ 8388608 }
+    requires few { length builder.old.instrs + length (refresh_gadget N).instrs ≤ MOST_INSTRS }
     requires shared { AllBelow (draft_len builder.old) x.now.regs }
     ensures emitted { IfOk result (λ bank. Emitted builder.old builder.new x.now.regs (refresh_gadget N) bank.regs) }
     ensures value { IfOk result (λ bank. Gives F.ID builder.old.maps N (draft_len builder.old) x.now.regs (refresh_gadget N) (λ entries. shared_at x.now.regs entries)) }
@@ -103,12 +77,24 @@ pub fn emit_refresh<F: Field, const N: usize>(
     count_law(&x.regs);
     builder.reserve(3 * pairs_before::<N>(N) as u32)?;
     let mut regs = x.regs;
+    // The partial sums of a row: one random element for each later share, added to both.
+    macro_rules! partial_sums {
+        ($i:ident) => {
+            for j in $i + 1..N {
+                let random = builder.push(Instr::Rnd);
+                regs[$i] = builder.push(Instr::Add {
+                    left: regs[$i],
+                    right: random,
+                });
+                regs[j] = builder.push(Instr::Add {
+                    left: regs[j],
+                    right: random,
+                });
+            }
+        };
+    }
     for i in 0..N {
-        for j in i + 1..N {
-            let random = builder.push(Instr::Rnd);
-            partial_sum!(builder, regs[i], random);
-            partial_sum!(builder, regs[j], random);
-        }
+        partial_sums!(i);
     }
     Ok(Bank { regs })
 }
@@ -121,7 +107,7 @@ pub fn emit_mul<F: Field, const N: usize>(
 ) -> Result<Bank<N>, Memory>
     requires least { 2 ≤ N }
     requires order { builder.old.order + 1 ≡ N }
-    requires few { length builder.old.instrs + length (product_gadget N).instrs ≤ 8388608 }
+    requires few { length builder.old.instrs + length (product_gadget N).instrs ≤ MOST_INSTRS }
     requires left { AllBelow (draft_len builder.old) x.now.regs }
     requires right { AllBelow (draft_len builder.old) y.now.regs }
     ensures emitted { IfOk result (λ bank. Emitted builder.old builder.new (x.now.regs ++ y.now.regs) (product_gadget N) bank.regs) }
@@ -133,23 +119,54 @@ pub fn emit_mul<F: Field, const N: usize>(
     count_law(&y.regs);
     builder.reserve(5 * pairs_before::<N>(N) as u32 + (N * N) as u32)?;
     let first = builder.len();
+    // The cells of two shares: a random element, and its sum with both cross products.
+    macro_rules! cross_products {
+        ($low:ident, $high:ident) => {
+            let mut sum = builder.push(Instr::Rnd);
+            let product = builder.push(Instr::Mul {
+                left: x.regs[$low],
+                right: y.regs[$high],
+            });
+            sum = builder.push(Instr::Add {
+                left: sum,
+                right: product,
+            });
+            let other = builder.push(Instr::Mul {
+                left: x.regs[$high],
+                right: y.regs[$low],
+            });
+            sum = builder.push(Instr::Add {
+                left: sum,
+                right: other,
+            });
+        };
+    }
+    // The partial sums of a row: the product of its two shares, and one more of its cells at a time.
+    macro_rules! partial_sums {
+        ($row:ident) => {{
+            let mut sum = builder.push(Instr::Mul {
+                left: x.regs[$row],
+                right: y.regs[$row],
+            });
+            for column in 0..N {
+                if column != $row {
+                    sum = builder.push(Instr::Add {
+                        left: sum,
+                        right: cell_place::<N>(first, $row, column),
+                    });
+                }
+            }
+            sum
+        }};
+    }
     for low in 0..N {
         for high in low + 1..N {
-            cross_products!(builder, x, y, low, high);
+            cross_products!(low, high);
         }
     }
     let mut regs = [0; N];
     for row in 0..N {
-        let mut sum = builder.push(Instr::Mul {
-            left: x.regs[row],
-            right: y.regs[row],
-        });
-        for column in 0..N {
-            if column != row {
-                partial_sum!(builder, sum, cell_place::<N>(first, row, column));
-            }
-        }
-        regs[row] = sum;
+        regs[row] = partial_sums!(row);
     }
     Ok(Bank { regs })
 }

@@ -33,18 +33,22 @@ turns_are_operations (suc turns) =
 abbrev pub tree_work : ℕ → List WorkUnit
 tree_work n = Step ∷ turns_work n
 
+-- the generated program has these units
 pub tree_units : (n : ℕ) → n ≤ 3276 → units (generated_tree n) ≡ tree_work n
 tree_units n within =
     ap up_to_fault (append-nil _ ∙ loop_units n within) ∙ faultless_whole (tree_work n) (tt, turns_faultless n)
 
+-- none of them is a fault
 pub tree_faultless : (n : ℕ) → AllByRecursion IsNoFault (tree_work n)
 tree_faultless n = (tt, turns_faultless n)
 
+-- they are 14 for a turn, and one for the loop
 pub tree_is_work : (n : ℕ) → work (tree_work n) ≡ 14 * n + 1
 tree_is_work n =
     let one : work (Step ∷ []) ≡ 1 = refl in
     omega (arith, work-append (Step ∷ []) (turns_work n), one, turns_are_work n)
 
+-- of them five in a turn are operations
 pub tree_operations : (n : ℕ) → operations (tree_work n) ≡ 5 * n
 tree_operations n =
     let none : operations (Step ∷ []) ≡ 0 = refl in

@@ -24,6 +24,7 @@ faultless_whole (Fault at ∷ us) all = absurd all.0
 step_goes : (before : List WorkUnit) → work before < 65536 → event before Step ≡ None
 step_goes before room = ap (λ b. if b then Some Work else None) (lt-leb 65536 (work before) room)
 
+-- an operation within both limits is no event
 operation_goes : (before : List WorkUnit) → work before < 65536 → operations before < 16384 → event before Operation ≡ None
 operation_goes before room free =
     λ i. if lt-leb 65536 (work before) room i then Some Work else if lt-leb 16384 (operations before) free i then Some Operations else None

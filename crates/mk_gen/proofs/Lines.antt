@@ -1,7 +1,6 @@
--- The text is written line by line, and it is short.
-use Rattle.std.proofs.Common.{◌≡◌, ℕ, ◌≤◌, ◌<◌, List, [], ◌∷◌, ◌++◌, flat_map, length, codes, decimal, refl, sym, ap, ◌∙◌, append_assoc, arith}
-use Rattle.std.proofs.lemmas.Fmt.{length-decimal-le}
-use Rattle.std.proofs.lemmas.List.{append-nil, flat_map_more, length-append}
+-- The text is written line by line.
+use Rattle.std.proofs.Common.{◌≡◌, ℕ, List, [], ◌∷◌, ◌++◌, flat_map, codes, decimal, sym, ap, ◌∙◌, append_assoc}
+use Rattle.std.proofs.lemmas.List.{append-nil, flat_map_more}
 use Rattle.mk_ast.specs.Canonical.{ended}
 use Rattle.mk_gen.specs.Generated.{declaration_lines, generated}
 
@@ -48,28 +47,3 @@ module _ (n : ℕ) (text after_declarations after_head after_first after_second 
       (lines_more text after_head after_first (declaration_lines ++ head ∷ []) first
       (lines_more text after_declarations after_head declaration_lines head declarations_are (head_is ∙ ap (λ t. after_declarations ++ t) whole))
       first_is) second_is) end_is
-
--- what stands before the number of turns, and behind its line
-abbrev before_number : List ℕ
-before_number = flat_map ended declaration_lines ++ codes "for i in 0.."
-
-abbrev behind_head : List ℕ
-behind_head = flat_map ended (codes "  a = x[i % 16] + y[5 * i % 16];" ∷ codes "  y[i % 16] = a * m(a) + sq(y[(i + 1) % 16]);" ∷ codes "}" ∷ [])
-
--- the text is short
-pub generated_short : (n : ℕ) → n ≤ 3276 → length (generated n) < 4294967296
-generated_short n few =
-    let parts : generated n ≡ before_number ++ (decimal n ++ (codes " {" ++ (10 ∷ behind_head))) =
-    ap (λ t. before_number ++ t) (append_assoc (decimal n ++ codes " {") (10 ∷ []) behind_head ∙ append_assoc (decimal n) (codes " {") (10 ∷ behind_head)) in
-    let before : length before_number ≡ 125 = refl in
-    let behind : length (codes " {" ++ (10 ∷ behind_head)) ≡ 84 = refl in
-    let digits = length-decimal-le 4 n (omega arith) (omega (arith, few)) (omega (arith, few)) in
-    omega (
-      arith,
-      ap (λ t. length t) parts,
-      length-append before_number (decimal n ++ (codes " {" ++ (10 ∷ behind_head))),
-      length-append (decimal n) (codes " {" ++ (10 ∷ behind_head)),
-      before,
-      behind,
-      digits,
-    )

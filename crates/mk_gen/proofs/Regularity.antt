@@ -107,18 +107,23 @@ letter_name letter begins = (
   reserved_longer reserved letter (lit≤ tt, (lit≤ tt, (lit≤ tt, (lit≤ tt, (lit≤ tt, (lit≤ tt, (lit≤ tt, (lit≤ tt, (lit≤ tt, (lit≤ tt, (lit≤ tt, tt))))))))))),
 )
 
+-- the names of the generated text are names
 is_name_a : IsName (codes "a")
 is_name_a = letter_name 97 refl
 
+-- the loop's
 is_name_i : IsName (codes "i")
 is_name_i = letter_name 105 refl
 
+-- the map's
 is_name_m : IsName (codes "m")
 is_name_m = letter_name 109 refl
 
+-- the secret's
 is_name_x : IsName (codes "x")
 is_name_x = letter_name 120 refl
 
+-- the output's
 is_name_y : IsName (codes "y")
 is_name_y = letter_name 121 refl
 

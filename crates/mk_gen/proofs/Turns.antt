@@ -33,6 +33,7 @@ record IsSmallTurn (number : ℕ) : Type 0 where
   next_low : ltb 65535 ((number + 1) % 16) ≡ false
   next_inside : ltb ((number + 1) % 16) 16 ≡ true
 
+-- each turn of the generated loop is such a one
 small_turn : (number : ℕ) → number ≤ 3275 → IsSmallTurn number
 small_turn number within = record {
   own_low = le-ltb 65535 (number % 16) (omega arith);

@@ -17,7 +17,7 @@ pub fn gen_text(alloc: Global, n: u32) -> Result<Bytes, Memory>
 {
     let mut text = String::new(alloc);
     push_text(&mut text, n)?;
-    Ok(Items::from_vec(text.into_bytes()))
+    Items::try_from_vec(text.into_bytes())
 }
 
 /// Appends the lines.

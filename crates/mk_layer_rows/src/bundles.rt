@@ -1,6 +1,6 @@
 //! Bundle texts: they are written as they were read, and the first wrong line is named.
 ghost use Rattle.std.specs.Prelude.{IfOk};
-ghost use Rattle.mk_bundle.specs.Pairs.{IsPair};
+ghost use Rattle.mk_rules.specs.Pairs.{IsPair};
 
 use mk_base::Memory;
 use mk_bundle::{BundleRefusal, MOST_BYTES, read_bundle, to_text};
@@ -16,7 +16,7 @@ const KINDS: &str =
 fn read(alloc: Global, text: &str) -> Result<Bundle, BundleRefusal>
     ensures { IfOk result (λ b. IsPair b.code b.cert) }
 {
-    if text.len() > MOST_BYTES {
+    if text.len() > MOST_BYTES as usize {
         return Err(BundleRefusal::Memory);
     }
     read_bundle(alloc, text.as_bytes())

@@ -17,6 +17,8 @@ mod placed;
 #[cfg(test)]
 mod reported;
 #[cfg(test)]
+mod rows;
+#[cfg(test)]
 mod run;
 #[cfg(test)]
 mod simplified;

@@ -2,7 +2,7 @@
 
 use crate::sources::{at, program_of};
 use mk_ast::{SourceRefusal, to_text};
-use mk_parse::{Token, TokenKind, tokens};
+use mk_parse::{TokenKind, tokens};
 use std::alloc::Global;
 
 /// Whether these are the tokens of a text of at most 100 bytes, each by its kind, where it begins and ends, and
@@ -20,13 +20,10 @@ fn has_tokens(
         return Ok(false);
     }
     for (token, (kind, from, to, line, column)) in list.as_slice().iter().zip(wanted) {
-        let same = Token {
-            kind: *kind,
-            from: *from,
-            to: *to,
-            at: at(*line, *column),
-        };
-        if *token != same {
+        if token.kind != *kind || (token.from, token.to) != (*from, *to) {
+            return Ok(false);
+        }
+        if token.at != at(*line, *column) {
             return Ok(false);
         }
     }

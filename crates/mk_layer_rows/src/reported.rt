@@ -14,7 +14,7 @@ const MANY: &str =
 
 /// The report of a bundle's text, if it is one and the rule accepts it.
 fn reported(alloc: Global, text: &str) -> Option<Bytes> {
-    if text.len() > MOST_BYTES {
+    if text.len() > MOST_BYTES as usize {
         return None;
     }
     let bundle = read_bundle(alloc, text.as_bytes()).ok()?;

@@ -15,23 +15,29 @@ use Rattle.mk_ssa.specs.declared.Op.{Op}
 use Rattle.mk_ssa.specs.declared.Op.TheVariants as op
 use Rattle.mk_code.specs.declared.instr.Instr.{Instr}
 use Rattle.mk_code.specs.declared.instr.Instr.TheVariants as instr
-use Rattle.mk_lines.specs.Words.{OperandFits, hex_digit, hex_byte, operand_word, is_line}
-use Rattle.mk_lines.specs.CertLines.{pair_words, mapped_words, OpFits}
+use Rattle.mk_lines.specs.Words.{operand_word, is_line}
+use Rattle.mk_field.specs.Digits.{hex_byte, hex_digit}
+use Rattle.mk_lines.specs.CertLines.{pair_words, mapped_words}
+use Rattle.mk_ssa.specs.Widths.{OperandFits, OpFits}
 use Rattle.mk_lines.specs.CodeLines.{place_word}
-use Rattle.mk_lines.proofs.Numbers.{own}
+use Rattle.mk_base.proofs.Digits.{own}
 use Rattle.mk_lines.proofs.Spelled.{number_words}
 use Rattle.mk_lines.proofs.Variants.{op_words, instr_words, InstrFits}
 
+-- a byte that differs from a line feed by the test is none
 unlike : (b : ℕ) → (b == 10) ≡ false → b ≡ 10 → ⊥
 unlike b other is = let same : (b == 10) ≡ true = eq-eqb b 10 is in absurd (cc)
 
+-- bytes without a line feed: the first is none, and none stands in the others
 unfed : (b x : Bool) → cond b false x ≡ true → (b ≡ false) × (x ≡ true)
 unfed true x e = absurd cc
 unfed false x e = (refl, e)
 
+-- a byte other than a line feed before bytes without one makes bytes without one
 is_line-more : (b : ℕ) (bs : List ℕ) → (b == 10) ≡ false → is_line bs ≡ true → is_line (b ∷ bs) ≡ true
 is_line-more b bs other e = rw other e
 
+-- no line feed stands in two lists together where none stands in either
 pub is_line-append : (xs ys : List ℕ) → is_line xs ≡ true → is_line ys ≡ true → is_line (xs ++ ys) ≡ true
 is_line-append [] ys e f = f
 is_line-append (x ∷ xs) ys e f = let h = unfed (x == 10) (is_line xs) e in is_line-more x (xs ++ ys) h.0 (is_line-append xs ys h.1 f)
@@ -57,6 +63,7 @@ has_feed (x ∷ xs) rest e = has_feed xs rest (unfed (x == 10) (is_line (xs ++ 1
 abbrev pub fed_front : List ℕ → ℕ
 fed_front bytes = length (take_while (λ b. not (b == 10)) bytes)
 
+-- what is cut off in front has no line feed, and behind it stands one or nothing
 fed_parts : (bytes : List ℕ) → (is_line (take (fed_front bytes) bytes) ≡ true) × ((drop (fed_front bytes) bytes ≡ []) ⊎ ((bs : List ℕ) × (drop (fed_front bytes) bytes ≡ 10 ∷ bs)))
 fed_parts [] = (refl, inl refl)
 fed_parts (b ∷ bs) = elim (cases_Bool (b == 10)) [
@@ -73,6 +80,7 @@ fed_parts (b ∷ bs) = elim (cases_Bool (b == 10)) [
       ))
 ]
 
+-- a text with something behind its front is that front, which has no line feed, a line feed and what follows
 pub cuts : (bytes line behind rest : List ℕ) (b : ℕ) → line ≡ take (fed_front bytes) bytes → behind ≡ drop (fed_front bytes) bytes → behind ≡ b ∷ rest → (is_line line ≡ true) × (bytes ≡ line ++ 10 ∷ rest)
 cuts bytes line behind rest b front back is =
     let parts = fed_parts bytes in (
@@ -83,6 +91,7 @@ cuts bytes line behind rest b front back is =
       ]),
     )
 
+-- the same, where what follows is told by its length
 pub cuts_behind : (bytes line behind : List ℕ) → line ≡ take (fed_front bytes) bytes → behind ≡ drop (fed_front bytes) bytes → 1 ≤ length behind
     → (is_line line ≡ true) × (bytes ≡ line ++ 10 ∷ take (length behind - 1) (drop 1 behind))
 cuts_behind bytes line [] front back some = absurd (omega (arith, some))
@@ -92,20 +101,24 @@ cuts_behind bytes line (b ∷ bs) front back some =
     let h = cuts bytes line (b ∷ bs) bs b front back refl in
     (h.0, h.1 ∙ ap (λ (r : List ℕ). line ++ 10 ∷ r) (sym same))
 
+-- a text with nothing behind its front has no line feed
 pub cuts_nothing : (bytes behind : List ℕ) → behind ≡ drop (fed_front bytes) bytes → behind ≡ [] → is_line bytes ≡ true
 cuts_nothing bytes behind back none =
     let whole : bytes ≡ take (fed_front bytes) bytes = sym (take-append-drop (fed_front bytes) bytes) ∙ ap (λ (r : List ℕ). take (fed_front bytes) bytes ++ r) (sym back ∙ none) ∙ append-nil (take (fed_front bytes) bytes) in
     ap is_line whole ∙ (fed_parts bytes).0
 
+-- no line feed stands in digits
 is_line-digits : (ds : List ℕ) → all_ascii_digits ds ≡ true → is_line ds ≡ true
 is_line-digits [] all = refl
 is_line-digits (d ∷ ds) all =
     let parts = and_parts (is_ascii_digit d) (all_ascii_digits ds) all in
     is_line-more d ds (false_from_ne_true (d == 10) (λ h. (let feed : is_ascii_digit d ≡ false = ap is_ascii_digit (eqb-true d 10 h) in absurd (cc (feed, parts.0))))) (is_line-digits ds parts.1)
 
+-- no line feed stands in the print of a number
 pub is_line-decimal : (n : ℕ) → n < 2 ^ 32 → is_line (decimal n) ≡ true
 is_line-decimal n small = is_line-digits (decimal n) (digits_decimal own n (omega arith))
 
+-- a hexadecimal digit is no line feed
 hex_digit-no_feed : (n : ℕ) → (hex_digit n == 10) ≡ false
 hex_digit-no_feed n = false_from_ne_true (hex_digit n == 10) (λ h. (let is : hex_digit n ≡ 10 = eqb-true (hex_digit n) 10 h in
     elim (cases_Bool (nat_lt n 10)) [
@@ -113,34 +126,43 @@ hex_digit-no_feed n = false_from_ne_true (hex_digit n == 10) (λ h. (let is : he
       | inr high ↦ (let e : hex_digit n ≡ 87 + n = rw high refl in absurd (omega (arith, is, e)))
     ]))
 
+-- no line feed stands in the digits of an element
 pub is_line-hex : (n : ℕ) → is_line (hex_byte n) ≡ true
 is_line-hex n = is_line-more (hex_digit (n / 16)) (hex_digit (n % 16) ∷ []) (hex_digit-no_feed (n / 16)) (is_line-more (hex_digit (n % 16)) [] (hex_digit-no_feed (n % 16)) refl)
 
+-- no line feed stands in the digits of images
 pub is_line-images : (images : List ℕ) → is_line (flat_map hex_byte images) ≡ true
 is_line-images [] = refl
 is_line-images (i ∷ is) = is_line-append (hex_byte i) (flat_map hex_byte is) (is_line-hex i) (is_line-images is)
 
+-- no line feed stands in the words of places
 pub is_line-places : (places : List ℕ) → AllByRecursion (λ p. p < 2 ^ 32) places → is_line (flat_map place_word places) ≡ true
 is_line-places [] all = refl
 is_line-places (p ∷ ps) all = is_line-append (place_word p) (flat_map place_word ps) (is_line-decimal p all.0) (is_line-places ps all.1)
 
+-- no line feed stands in the word of an operand
 pub is_line-operand : (operand : Operand) → OperandFits operand → is_line (operand_word operand) ≡ true
 is_line-operand (Secret n) small = is_line-decimal n small
 is_line-operand (Public n) small = is_line-decimal n small
 is_line-operand (Block n) small = is_line-decimal n small
 
+-- no line feed stands in two words with a space between where none stands in either
 is_line-spaced : (xs ys : List ℕ) → is_line xs ≡ true → is_line ys ≡ true → is_line (xs ++ codes " " ++ ys) ≡ true
 is_line-spaced xs ys e f = is_line-append (xs ++ codes " ") ys (is_line-append xs (codes " ") e refl) f
 
+-- no line feed stands in the words of two operands
 is_line-pair : (left right : Operand) → OperandFits left × OperandFits right → is_line (pair_words left right) ≡ true
 is_line-pair left right fits = is_line-spaced (operand_word left) (operand_word right) (is_line-operand left fits.0) (is_line-operand right fits.1)
 
+-- no line feed stands in the number of a map and the word of an operand
 is_line-mapped : (map : ℕ) (arg : Operand) → (map < 2 ^ 32) × OperandFits arg → is_line (mapped_words map arg) ≡ true
 is_line-mapped map arg fits = is_line-spaced (decimal map) (operand_word arg) (is_line-decimal map fits.0) (is_line-operand arg fits.1)
 
+-- no line feed stands in two numbers
 is_line-numbers : (left right : ℕ) → (left < 2 ^ 32) × (right < 2 ^ 32) → is_line (number_words left right) ≡ true
 is_line-numbers left right fits = is_line-spaced (decimal left) (decimal right) (is_line-decimal left fits.0) (is_line-decimal right fits.1)
 
+-- no line feed stands in the words of a block
 pub is_line-op : (o : Op) → OpFits o → is_line (op_words o) ≡ true
 is_line-op (op.Const value) fits = is_line-hex value
 is_line-op (op.PubAdd left right) fits = is_line-pair left right fits
@@ -156,6 +178,7 @@ is_line-op (op.Map map arg) fits = is_line-mapped map arg fits
 is_line-op (op.Mul left right) fits = is_line-pair left right fits
 is_line-op (op.Refresh arg) fits = is_line-operand arg fits
 
+-- no line feed stands in the words of an instruction
 pub is_line-instr : (i : Instr) → InstrFits i → is_line (instr_words i) ≡ true
 is_line-instr instr.Rnd fits = refl
 is_line-instr (instr.Const value) fits = is_line-hex value

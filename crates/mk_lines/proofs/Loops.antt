@@ -1,14 +1,11 @@
 -- Loops read one thing after the other, as the definitions do.
-use Rattle.std.proofs.Common.{◌≡◌, ◌≢◌, ℕ, suc, ◌+◌, ◌*◌, ◌-◌, ◌^◌, ◌<◌, ◌≤◌, Bool, true, false, List, [], ◌∷◌, ◌++◌, length, drop, get_or, Option, Some, None, nat_lt, refl, sym, ap, ◌∙◌, arith, append_assoc, add-one}
-use Rattle.std.specs.Prelude.{cond, codes, MatchOption, ◌&&◌}
+use Rattle.std.proofs.Common.{◌≡◌, ◌≢◌, ℕ, suc, ◌<◌, ◌≤◌, true, false, List, [], ◌∷◌, ◌++◌, length, Option, Some, None, nat_lt, refl, sym, ap, ◌∙◌, arith, append_assoc}
+use Rattle.std.specs.Prelude.{codes, MatchOption}
 use Rattle.std.specs.Borrow.{Bor}
 use Rattle.std.proofs.lemmas.Bool.{lt-ltb, le-ltb}
 use Rattle.std.proofs.lemmas.List.{append-nil}
-use Rattle.std.proofs.Math.Seq.{drop-cons}
-use Rattle.std.proofs.Math.ListN.{drop_of_length-le}
-use Rattle.mk_lines.specs.Parsing.{◌>>=◌, Tells, after, whole, valued, leads, number_by, number_at, hex_at, images_at, places_of}
+use Rattle.mk_lines.specs.Parsing.{◌>>=◌, Tells, after, whole, number_at, hex_at, images_at, places_of}
 use Rattle.mk_lines.proofs.Steps.{after_found, after_again}
-use Rattle.mk_lines.proofs.Numbers.{valued-ge}
 
 -- a front that is there or not
 pub after_tells : (word bytes : List ℕ) (r : Option (Bor (List ℕ))) → MatchOption r ((rest : List ℕ) → bytes ≢ word ++ rest) (λ x. bytes ≡ word ++ x.now) → Tells (λ (x : Bor (List ℕ)). x.now) r (after word bytes)
@@ -19,33 +16,9 @@ after_tells word bytes None h = by (after word bytes) refl
     by (Some rest) is = absurd (h rest (after_found word bytes rest is))
     by None is = is
 
--- ---- digits
-
-pub digit_more : (ds : List ℕ) (i value total : ℕ) → i < length ds → valued value (drop i ds) ≡ total → valued (value * 10 + (get_or ds i 0 - 48)) (drop (i + 1) ds) ≡ total
-unfolding valued
-digit_more ds i value total lt e = let cut : drop i ds ≡ get_or ds i 0 ∷ drop (i + 1) ds = rw add-one (drop-cons ds i 0 lt) in sym (ap (valued value) cut) ∙ e
-
-pub too_large : (ds : List ℕ) (value : ℕ) (rest : List ℕ) → 2 ^ 32 ≤ value → valued value rest ≡ valued 0 ds → number_by ds ≡ None
-unfolding number_by
-too_large ds value rest large e =
-    let low : nat_lt (valued 0 ds) (2 ^ 32) ≡ false = le-ltb (valued 0 ds) (2 ^ 32) (omega (arith, valued-ge value rest)) in
-    by (leads ds) (nat_lt (valued 0 ds) (2 ^ 32)) low
-  where
-    by : (a b : Bool) → b ≡ false → cond (a && b) (Some (valued 0 ds)) None ≡ None
-    by true true h = absurd cc
-    by true false h = refl
-    by false b h = refl
-
-pub all_digits : (ds : List ℕ) (i value : ℕ) → leads ds ≡ true → length ds ≤ i → value < 2 ^ 32 → valued value (drop i ds) ≡ valued 0 ds → number_by ds ≡ Some value
-unfolding number_by valued
-all_digits ds i value led done small e =
-    let none : drop i ds ≡ [] = drop_of_length-le ds done in
-    let is : value ≡ valued 0 ds = sym (ap (valued value) none) ∙ e in
-    let below : nat_lt (valued 0 ds) (2 ^ 32) ≡ true = lt-ltb (valued 0 ds) (2 ^ 32) (omega (arith, is)) in
-    rw (led, below) (ap (λ (n : ℕ). Some n) (sym is))
-
 -- ---- images
 
+-- images that were read and what stands behind them, or none where something else stood there
 abbrev pub Images : Type 0
 Images = Option (List ℕ × List ℕ)
 
@@ -53,6 +26,7 @@ Images = Option (List ℕ × List ℕ)
 abbrev pub fronted : List ℕ → List ℕ × List ℕ → Images
 fronted front x = Some (front ++ x.0, x.1)
 
+-- one image more is put to those in front, and all give what they gave before
 pub image_more : (front : List ℕ) (n m : ℕ) (rest behind : List ℕ) (image : ℕ) (total : Images) → n ≡ suc m → hex_at rest ≡ Some (image, behind)
     → (images_at n rest >>= fronted front) ≡ total → (images_at m behind >>= fronted (front ++ image ∷ [])) ≡ total
 unfolding images_at
@@ -64,6 +38,7 @@ image_more front n m rest behind image total more e so_far =
     by (Some y) = ap (λ (all : List ℕ). Some (all, y.1)) (sym (append_assoc front (image ∷ []) y.0))
     by None = refl
 
+-- where no image stands though one is missing, all bytes give no images
 pub image_stops : (front : List ℕ) (n m : ℕ) (rest : List ℕ) (total : Images) → n ≡ suc m → hex_at rest ≡ None
     → (images_at n rest >>= fronted front) ≡ total → total ≡ None
 unfolding images_at
@@ -71,6 +46,7 @@ image_stops front n m rest total more e so_far =
     let one : (images_at n rest >>= fronted front) ≡ None = rw (more, e) refl in
     sym so_far ∙ one
 
+-- where no image is missing, all bytes give those in front
 pub images_done : (front : List ℕ) (n : ℕ) (rest : List ℕ) (total : Images) → n ≡ 0
     → (images_at n rest >>= fronted front) ≡ total → total ≡ Some (front, rest)
 unfolding images_at
@@ -80,9 +56,11 @@ images_done front n rest total none so_far =
 
 -- ---- places
 
+-- the n places that the rest gives, behind those in front, are what all bytes give
 abbrev pub Placed : List ℕ → ℕ → ℕ → List ℕ → Option (List ℕ) → Type 0
 Placed front n len rest total = (places_of n len rest >>= λ ps. Some (front ++ ps)) ≡ total
 
+-- one place more is put to those in front, and all give what they gave before
 pub place_more : (front : List ℕ) (n m len : ℕ) (rest word behind : List ℕ) (place : ℕ) (total : Option (List ℕ)) → n ≡ suc m → after (codes " ") rest ≡ Some word → number_at word ≡ Some (place, behind) → place < len
     → Placed front n len rest total → Placed (front ++ place ∷ []) m len behind total
 unfolding places_of
@@ -95,18 +73,21 @@ place_more front n m len rest word behind place total more e f low so_far =
     by (Some y) = ap (λ (all : List ℕ). Some all) (sym (append_assoc front (place ∷ []) y))
     by None = refl
 
+-- where no space stands though a place is missing, all bytes give no places
 pub place_no_space : (front : List ℕ) (n m len : ℕ) (rest : List ℕ) (total : Option (List ℕ)) → n ≡ suc m → after (codes " ") rest ≡ None → Placed front n len rest total → total ≡ None
 unfolding places_of
 place_no_space front n m len rest total more e so_far =
     let one : (places_of n len rest >>= λ ps. Some (front ++ ps)) ≡ None = rw (more, e) refl in
     sym so_far ∙ one
 
+-- where no number stands behind the space, all bytes give no places
 pub place_no_number : (front : List ℕ) (n m len : ℕ) (rest word : List ℕ) (total : Option (List ℕ)) → n ≡ suc m → after (codes " ") rest ≡ Some word → number_at word ≡ None → Placed front n len rest total → total ≡ None
 unfolding places_of
 place_no_number front n m len rest word total more e f so_far =
     let one : (places_of n len rest >>= λ ps. Some (front ++ ps)) ≡ None = rw (more, e, f) refl in
     sym so_far ∙ one
 
+-- where the place is not below the length, all bytes give no places
 pub place_high : (front : List ℕ) (n m len : ℕ) (rest word behind : List ℕ) (place : ℕ) (total : Option (List ℕ)) → n ≡ suc m → after (codes " ") rest ≡ Some word → number_at word ≡ Some (place, behind) → len ≤ place
     → Placed front n len rest total → total ≡ None
 unfolding places_of
@@ -115,12 +96,14 @@ place_high front n m len rest word behind place total more e f high so_far =
     let one : (places_of n len rest >>= λ ps. Some (front ++ ps)) ≡ None = rw (more, e, f, below) refl in
     sym so_far ∙ one
 
+-- where no place is missing and nothing is left, all bytes give those in front
 pub places_done : (front : List ℕ) (n len : ℕ) (rest : List ℕ) (total : Option (List ℕ)) → n ≡ 0 → rest ≡ [] → Placed front n len rest total → total ≡ Some front
 unfolding places_of whole
 places_done front n len rest total none ended so_far =
     let one : (places_of n len rest >>= λ ps. Some (front ++ ps)) ≡ Some front = rw (none, ended) (ap (λ (all : List ℕ). Some all) (append-nil front)) in
     sym so_far ∙ one
 
+-- where no place is missing and something is left, all bytes give no places
 pub places_behind : (front : List ℕ) (n len : ℕ) (rest : List ℕ) (total : Option (List ℕ)) → n ≡ 0 → rest ≢ [] → Placed front n len rest total → total ≡ None
 unfolding places_of whole
 places_behind front n len [] total none ended so_far = absurd (ended refl)

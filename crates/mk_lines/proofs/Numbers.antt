@@ -1,24 +1,22 @@
 -- A number that is printed is read back, and what is read is printed so.
-use Rattle.std.proofs.Common.{◌≡◌, ℕ, zero, suc, ◌+◌, ◌*◌, ◌-◌, ◌^◌, ◌<◌, ◌≤◌, true, false, ◌⊎◌, List, [], ◌∷◌, ◌++◌, length, drop, get_or, Some, None, nat_lt, refl, sym, ap, subst, ◌∙◌, inl, inr, arith, rules}
-use Rattle.std.specs.Prelude.{cond, take_while, decimal, ◌&&◌, ◌==◌, not}
+use Rattle.std.proofs.Common.{◌≡◌, ℕ, zero, suc, ◌^◌, ◌<◌, true, false, ◌⊎◌, List, [], ◌∷◌, ◌++◌, length, take, drop, get_or, Option, Some, None, nat_lt, refl, sym, ap, subst, ◌∙◌, inl, inr, arith}
+use Rattle.std.specs.Prelude.{cond, take_while, decimal, MatchOption, ◌&&◌, ◌==◌, not}
 use Rattle.std.specs.Char.{is_ascii_digit}
 use Rattle.std.specs.Str.{all_ascii_digits}
 use Rattle.std.proofs.lemmas.Bool.{ltb-true, lt-ltb, eqb-true, eq-eqb, and_parts, and_from, cases_Bool, cond-true}
 use Rattle.std.proofs.lemmas.List.{drop_at, append-nil}
 use Rattle.std.proofs.lemmas.List.Sums.{take_while-cons}
-use Rattle.std.proofs.lemmas.Str.Parse.{IsNumeralModel, numerals_by_fold}
+use Rattle.std.proofs.Math.Seq.{take-append_seam}
 use Rattle.std.proofs.lemmas.Fmt.{digits_decimal, digits_value-decimal, decimal-digits_value, decimal_nonempty, first_decimal, decimal_digit}
-use Rattle.mk_lines.specs.Parsing.{whole, valued, leads, number_by, number_at, number_of}
+use Rattle.mk_base.specs.Digits.{IsDecimal, valued}
+use Rattle.mk_base.proofs.Digits.{own}
+use Rattle.mk_lines.specs.Parsing.{whole, leads, number_by, number_at, number_of}
 use Rattle.mk_lines.proofs.Steps.{bind_some, same_some, passed, whole_found}
 
 -- what stands behind a number doesn't go on with it
 abbrev pub EndsNumber : List ℕ → Type 0
 EndsNumber [] = Unit {0}
 EndsNumber (b ∷ bs) = is_ascii_digit b ≡ false
-
-pub own : IsNumeralModel (λ ds. all_ascii_digits ds ≡ true) (valued 0)
-unfolding valued
-own = numerals_by_fold _ (search rules) valued (search rules)
 
 -- the digits at the front
 front : (bytes : List ℕ) → bytes ≡ take_while is_ascii_digit bytes ++ drop (length (take_while is_ascii_digit bytes)) bytes
@@ -28,6 +26,7 @@ front (b ∷ bs) = elim (cases_Bool (is_ascii_digit b)) [
   | inr failed ↦ rw (take_while-cons is_ascii_digit b bs, failed) refl
 ]
 
+-- the bytes at the front that are taken for digits are all digits
 all_front : (bytes : List ℕ) → all_ascii_digits (take_while is_ascii_digit bytes) ≡ true
 all_front [] = refl
 all_front (b ∷ bs) = elim (cases_Bool (is_ascii_digit b)) [
@@ -35,6 +34,7 @@ all_front (b ∷ bs) = elim (cases_Bool (is_ascii_digit b)) [
   | inr failed ↦ rw (take_while-cons is_ascii_digit b bs, failed) refl
 ]
 
+-- of digits with no digit behind them, just those are taken
 front_is : (ds rest : List ℕ) → all_ascii_digits ds ≡ true → EndsNumber rest → take_while is_ascii_digit (ds ++ rest) ≡ ds
 front_is [] [] all ends = refl
 front_is [] (b ∷ bs) all ends = rw (take_while-cons is_ascii_digit b bs, ends) refl
@@ -42,18 +42,14 @@ front_is (d ∷ ds) rest all ends =
     let parts = and_parts (is_ascii_digit d) (all_ascii_digits ds) all in
     take_while-cons is_ascii_digit d (ds ++ rest) ∙ cond-true (is_ascii_digit d) (d ∷ take_while is_ascii_digit (ds ++ rest)) [] parts.0 ∙ ap (λ (t : List ℕ). d ∷ t) (front_is ds rest parts.1 ends)
 
--- digits make at least what is before them
-pub valued-ge : (n : ℕ) (ds : List ℕ) → n ≤ valued n ds
-unfolding valued
-valued-ge n [] = omega arith
-valued-ge n (c ∷ cs) = omega (arith, valued-ge (n * 10 + (c - 48)) cs)
-
+-- without a leading zero there is a digit, and a zero in front is the only digit
 leads_parts : (ds : List ℕ) → leads ds ≡ true → (0 < length ds) × (get_or ds 0 0 ≡ 48 → length ds ≡ 1)
 unfolding leads
 leads_parts [] e = absurd cc
 leads_parts (d ∷ []) e = (omega arith, λ z. refl)
 leads_parts (d ∷ f ∷ ds) e = (omega arith, λ z. (let never : not (d == 48) ≡ false = ap not (eq-eqb d 48 z) in absurd (cc)))
 
+-- a single digit, and digits of which the first is above zero, have no leading zero
 leads_from : (ds : List ℕ) → 0 < length ds → (length ds ≡ 1) ⊎ (48 < get_or ds 0 0) → leads ds ≡ true
 unfolding leads
 leads_from [] some h = absurd (omega arith)
@@ -63,10 +59,12 @@ leads_from (d ∷ f ∷ ds) some h = elim h [
   | inr high ↦ elim (cases_Bool (d == 48)) [ inl is ↦ absurd (omega (arith, high, eqb-true d 48 is)) | inr isnt ↦ ap not isnt ]
 ]
 
+-- a number is printed without a leading zero
 leads_decimal : (n : ℕ) → n < 2 ^ 32 → leads (decimal n) ≡ true
 leads_decimal zero small = leads_from (decimal 0) (decimal_nonempty 0 (omega arith)) (inl (ap length (decimal_digit 0 (omega arith))))
 leads_decimal (suc n) small = leads_from (decimal (suc n)) (decimal_nonempty (suc n) (omega arith)) (inr (first_decimal (suc n) (omega arith) (omega arith)))
 
+-- digits that make a number are its print, and it has 32 bits
 number_by_found : (ds : List ℕ) (n : ℕ) → all_ascii_digits ds ≡ true → number_by ds ≡ Some n → (ds ≡ decimal n) × (n < 2 ^ 32)
 unfolding number_by
 number_by_found ds n all e =
@@ -78,6 +76,7 @@ number_by_found ds n all e =
     let spelled = decimal-digits_value own ds all led.0 led.1 (omega (arith, small)) in
     (sym spelled ∙ ap decimal is, subst (λ (m : ℕ). m < 2 ^ 32) is small)
 
+-- the print of a number of 32 bits makes that number
 number_by_again : (n : ℕ) → n < 2 ^ 32 → number_by (decimal n) ≡ Some n
 unfolding number_by
 number_by_again n small =
@@ -85,6 +84,23 @@ number_by_again n small =
     let below : nat_lt (valued 0 (decimal n)) (2 ^ 32) ≡ true = rw is (lt-ltb n (2 ^ 32) small) in
     ap (λ b. cond b (Some (valued 0 (decimal n))) None) (and_from (leads (decimal n)) (nat_lt (valued 0 (decimal n)) (2 ^ 32)) (leads_decimal n small) below)
     ∙ ap (λ (m : ℕ). Some m) is
+
+-- the code's reading of digits is that of the definition
+pub number_told : (o : Option ℕ) (ds : List ℕ) → all_ascii_digits ds ≡ true → MatchOption o ((n : ℕ) → IsDecimal 4294967295 n ds → ⊥) (λ n. IsDecimal 4294967295 n ds) → o ≡ number_by ds
+number_told (Some n) ds all h = sym (ap number_by h.0 ∙ number_by_again n (omega (arith, h.1)))
+number_told None ds all h = by (number_by ds) refl
+  where
+    by : (o : Option ℕ) → number_by ds ≡ o → None ≡ o
+    by None e = refl
+    by (Some n) e = let found = number_by_found ds n all e in absurd (h n (found.0, omega (arith, found.1)))
+
+-- as many bytes as there are digits at the front are all digits
+pub front_digits : (bytes : List ℕ) (n : ℕ) → n ≡ length (take_while is_ascii_digit bytes) → all_ascii_digits (take n bytes) ≡ true
+front_digits bytes n is =
+    let digits = take_while is_ascii_digit bytes in
+    let taken : take n bytes ≡ digits =
+    ap (λ (m : ℕ). take m bytes) is ∙ ap (take (length digits)) (front bytes) ∙ take-append_seam digits (drop (length digits) bytes) in
+    ap all_ascii_digits taken ∙ all_front bytes
 
 -- what is read at the front is a number's text
 pub number_found : (bytes : List ℕ) (x : ℕ × List ℕ) → number_at bytes ≡ Some x → (bytes ≡ decimal x.0 ++ x.1) × (x.0 < 2 ^ 32)
@@ -106,6 +122,7 @@ number_again n rest small ends =
     let left : drop (length (decimal n)) (decimal n ++ rest) ≡ rest = drop_at (decimal n) rest (length (decimal n)) refl in
     rw (taken, number_by_again n small) (ap (λ (r : List ℕ). Some (n, r)) left)
 
+-- bytes that are read as a number are its print, and it has 32 bits
 pub number_of_found : (bytes : List ℕ) (n : ℕ) → number_of bytes ≡ Some n → (bytes ≡ decimal n) × (n < 2 ^ 32)
 unfolding number_of
 number_of_found bytes n e =
@@ -114,6 +131,7 @@ number_of_found bytes n e =
     let found = number_found bytes h.0 h.1 in
     (found.0 ∙ ap (λ (m : ℕ). decimal m ++ h.0.1) w.0 ∙ ap (λ (r : List ℕ). decimal n ++ r) w.1 ∙ append-nil (decimal n), subst (λ (m : ℕ). m < 2 ^ 32) w.0 found.1)
 
+-- the print of a number of 32 bits, with nothing behind it, is read as that number
 pub number_of_again : (n : ℕ) → n < 2 ^ 32 → number_of (decimal n) ≡ Some n
 unfolding number_of whole
 number_of_again n small =

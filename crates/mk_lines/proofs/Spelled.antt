@@ -7,15 +7,19 @@ use Rattle.std.proofs.lemmas.List.{append-nil}
 use Rattle.mk_field.specs.declared.map.AddMap.{AddMap}
 use Rattle.mk_ssa.specs.declared.Operand.{Operand}
 use Rattle.mk_ssa.specs.declared.Operand.TheVariants.{Secret, Public, Block}
-use Rattle.mk_lines.specs.Words.{OperandFits, hex_digit, hex_byte, operand_word}
+use Rattle.mk_lines.specs.Words.{operand_word}
+use Rattle.mk_field.specs.Digits.{hex_byte, hex_digit}
+use Rattle.mk_ssa.specs.Widths.{OperandFits}
 use Rattle.mk_lines.specs.CertLines.{pair_words, mapped_words}
-use Rattle.mk_lines.specs.CodeLines.{MapFits, place_word}
+use Rattle.mk_lines.specs.CodeLines.{place_word}
+use Rattle.mk_field.specs.Maps.{MapFits}
 use Rattle.mk_lines.specs.Parsing.{◌>>=◌, after, whole, number_at, number_of, hex_value, hex_at, hex_of, images_at, map_of, operand_by, operand_at, operand_of, pair_of, mapped_of, numbers_of, places_of}
 use Rattle.mk_lines.proofs.Steps.{bind_some, same_some, chosen, passed, not_passed, after_found, after_again, whole_found}
 use Rattle.mk_lines.proofs.Numbers.{EndsNumber, number_found, number_again, number_of_found, number_of_again}
 
 -- ---- hexadecimal digits
 
+-- a hexadecimal digit that has a value is the digit of this value, which is below 16
 hex_value_found : (c n : ℕ) → hex_value c ≡ Some n → (hex_digit n ≡ c) × (n < 16)
 unfolding hex_value
 hex_value_found c n e =
@@ -40,6 +44,7 @@ hex_value_found c n e =
         let large : 10 ≤ n = omega arith in
         (rw (le-ltb n 10 large) (omega arith), omega arith)
 
+-- the digit of a number below 16 has this number as its value
 hex_value_again : (n : ℕ) → n < 16 → hex_value (hex_digit n) ≡ Some n
 unfolding hex_value
 hex_value_again n small = elim (cases_Bool (nat_lt n 10)) [ inl low ↦ digit (ltb-true n 10 low) | inr high ↦ letter (ltb-false n 10 high) ]
@@ -54,6 +59,7 @@ hex_value_again n small = elim (cases_Bool (nat_lt n 10)) [ inl low ↦ digit (l
         let is : hex_digit n ≡ 87 + n = rw (le-ltb n 10 high) refl in
         rw (is, le-ltb (87 + n) 48 (omega arith), le-ltb (87 + n) 58 (omega arith), le-ltb (87 + n) 97 (omega arith), lt-ltb (87 + n) 103 (omega arith)) (ap (λ (m : ℕ). Some m) (let e : 87 + n - 87 ≡ n = omega arith in e))
 
+-- the bytes at the front that are read as an element are its two digits, and it is a byte
 pub hex_found : (bytes : List ℕ) (x : ℕ × List ℕ) → hex_at bytes ≡ Some x → (bytes ≡ hex_byte x.0 ++ x.1) × (x.0 < 256)
 unfolding hex_at
 hex_found [] x e = absurd cc
@@ -72,6 +78,7 @@ hex_found (c ∷ d ∷ bs) x e =
     let small : a.0 * 16 + b.0 < 256 = omega (arith, low.1, high.1) in
     (here ∙ ap (λ (y : ℕ × List ℕ). hex_byte y.0 ++ y.1) is, subst (λ (m : ℕ). m < 256) (ap (λ (y : ℕ × List ℕ). y.0) is) small)
 
+-- the two digits of a byte, whatever stands behind them, are read as that byte
 pub hex_again : (n : ℕ) (rest : List ℕ) → n < 256 → hex_at (hex_byte n ++ rest) ≡ Some (n, rest)
 unfolding hex_at
 hex_again n rest small =
@@ -82,6 +89,7 @@ hex_again n rest small =
     ∙ ap (λ (o : Option ℕ). o >>= λ low. Some (n / 16 * 16 + low, rest)) low
     ∙ ap (λ (m : ℕ). let read : ℕ × List ℕ = (m, rest) in Some read) is
 
+-- bytes that are read as an element are its two digits, and it is a byte
 pub hex_of_found : (bytes : List ℕ) (n : ℕ) → hex_of bytes ≡ Some n → (bytes ≡ hex_byte n) × (n < 256)
 unfolding hex_of
 hex_of_found bytes n e =
@@ -90,12 +98,14 @@ hex_of_found bytes n e =
     let found = hex_found bytes h.0 h.1 in
     (found.0 ∙ ap (λ (m : ℕ). hex_byte m ++ h.0.1) w.0 ∙ ap (λ (r : List ℕ). hex_byte n ++ r) w.1, subst (λ (m : ℕ). m < 256) w.0 found.1)
 
+-- the two digits of a byte, with nothing behind them, are read as that byte
 pub hex_of_again : (n : ℕ) → n < 256 → hex_of (hex_byte n) ≡ Some n
 unfolding hex_of whole
 hex_of_again n small = rw (hex_again n [] small) refl
 
 -- ---- images
 
+-- the bytes at the front that are read as n elements are their digits: n of them, each a byte
 images_found : (n : ℕ) (bytes : List ℕ) (x : List ℕ × List ℕ) → images_at n bytes ≡ Some x → (bytes ≡ flat_map hex_byte x.0 ++ x.1) × (length x.0 ≡ n) × AllByRecursion (λ b. b < 256) x.0
 unfolding images_at
 images_found zero bytes x e =
@@ -110,6 +120,7 @@ images_found (suc n) bytes x e =
     subst (λ (y : List ℕ × List ℕ). (bytes ≡ flat_map hex_byte y.0 ++ y.1) × (length y.0 ≡ suc n) × AllByRecursion (λ b. b < 256) y.0) is
     (first.0 ∙ ap (λ (r : List ℕ). hex_byte a.0.0 ++ r) others.0, ap suc others.1, (first.1, others.2))
 
+-- the digits of bytes, whatever stands behind them, are read as just those bytes
 images_again : (images rest : List ℕ) → AllByRecursion (λ b. b < 256) images → images_at (length images) (flat_map hex_byte images ++ rest) ≡ Some (images, rest)
 unfolding images_at
 images_again [] rest all = refl
@@ -118,6 +129,7 @@ images_again (i ∷ is) rest all =
     ap (λ (o : Option (ℕ × List ℕ)). o >>= λ first. images_at (length is) first.1 >>= λ others. Some (first.0 ∷ others.0, others.1)) first
     ∙ ap (λ (o : Option (List ℕ × List ℕ)). o >>= λ others. Some (i ∷ others.0, others.1)) (images_again is rest all.1)
 
+-- bytes that are read as a map are the digits of its images, which are eight bytes
 pub map_found : (bytes : List ℕ) (map : AddMap) → map_of bytes ≡ Some map → (bytes ≡ flat_map hex_byte map.images) × MapFits map
 unfolding map_of
 map_found bytes map e =
@@ -131,6 +143,7 @@ map_found bytes map e =
     let fits : (length b.0 ≡ 8) × AllByRecursion (λ b. b < 256) b.0 = subst (λ (xs : List ℕ). (length xs ≡ 8) × AllByRecursion (λ b. b < 256) xs) w.0 (found.1, found.2) in
     subst (λ (m : AddMap). (bytes ≡ flat_map hex_byte m.images) × MapFits m) is (spelled, fits)
 
+-- the digits of the images of a map are read as that map
 pub map_again : (map : AddMap) → MapFits map → map_of (flat_map hex_byte map.images) ≡ Some map
 unfolding map_of whole
 map_again map fits =
@@ -140,6 +153,7 @@ map_again map fits =
 
 -- ---- operands
 
+-- the bytes at the front that are read as an operand are its word, and its number has 32 bits
 pub operand_found : (bytes : List ℕ) (x : Operand × List ℕ) → operand_at bytes ≡ Some x → (bytes ≡ operand_word x.0 ++ x.1) × OperandFits x.0
 unfolding operand_at operand_by
 operand_found [] x e = absurd cc
@@ -163,12 +177,14 @@ operand_found (kind ∷ bs) x e =
       ]
     ]
 
+-- the word of an operand, with no digit behind it, is read as that operand
 pub operand_again : (operand : Operand) (rest : List ℕ) → OperandFits operand → EndsNumber rest → operand_at (operand_word operand ++ rest) ≡ Some (operand, rest)
 unfolding operand_at operand_by
 operand_again (Secret n) rest small ends = ap (λ (o : Option (ℕ × List ℕ)). o >>= λ number. operand_by 115 number.0 >>= λ operand. Some (operand, number.1)) (number_again n rest small ends)
 operand_again (Public n) rest small ends = ap (λ (o : Option (ℕ × List ℕ)). o >>= λ number. operand_by 112 number.0 >>= λ operand. Some (operand, number.1)) (number_again n rest small ends)
 operand_again (Block n) rest small ends = ap (λ (o : Option (ℕ × List ℕ)). o >>= λ number. operand_by 98 number.0 >>= λ operand. Some (operand, number.1)) (number_again n rest small ends)
 
+-- bytes that are read as an operand are its word, and its number has 32 bits
 pub operand_of_found : (bytes : List ℕ) (operand : Operand) → operand_of bytes ≡ Some operand → (bytes ≡ operand_word operand) × OperandFits operand
 unfolding operand_of
 operand_of_found bytes operand e =
@@ -179,6 +195,7 @@ operand_of_found bytes operand e =
       subst OperandFits w.0 found.1,
     )
 
+-- the word of an operand, with nothing behind it, is read as that operand
 pub operand_of_again : (operand : Operand) → OperandFits operand → operand_of (operand_word operand) ≡ Some operand
 unfolding operand_of whole
 operand_of_again operand fits =
@@ -187,6 +204,7 @@ operand_of_again operand fits =
 
 -- ---- several words
 
+-- bytes that are read as two operands are their words with a space between, and their numbers have 32 bits
 pub pair_found : (bytes : List ℕ) (x : Operand × Operand) → pair_of bytes ≡ Some x → (bytes ≡ pair_words x.0 x.1) × OperandFits x.0 × OperandFits x.1
 unfolding pair_of
 pair_found bytes x e =
@@ -201,6 +219,7 @@ pair_found bytes x e =
     ∙ sym (append_assoc (operand_word a.0.0) (codes " ") (operand_word d.0)) in
     subst (λ (y : Operand × Operand). (bytes ≡ pair_words y.0 y.1) × OperandFits y.0 × OperandFits y.1) is (here, left.1, right.1)
 
+-- the words of two operands with a space between are read as those two
 pub pair_again : (left right : Operand) → OperandFits left → OperandFits right → pair_of (pair_words left right) ≡ Some (left, right)
 unfolding pair_of
 pair_again left right fits_left fits_right =
@@ -210,6 +229,7 @@ pair_again left right fits_left fits_right =
     ∙ ap (λ (o : Option (List ℕ)). o >>= λ rest. operand_of rest >>= λ right. Some (left, right)) (after_again (codes " ") (operand_word right))
     ∙ ap (λ (o : Option Operand). o >>= λ right. Some (left, right)) (operand_of_again right fits_right)
 
+-- bytes that are read as a map's number and an operand are these with a space between, each of 32 bits
 pub mapped_found : (bytes : List ℕ) (x : ℕ × Operand) → mapped_of bytes ≡ Some x → (bytes ≡ mapped_words x.0 x.1) × (x.0 < 2 ^ 32) × OperandFits x.1
 unfolding mapped_of
 mapped_found bytes x e =
@@ -224,6 +244,7 @@ mapped_found bytes x e =
     ∙ sym (append_assoc (decimal a.0.0) (codes " ") (operand_word d.0)) in
     subst (λ (y : ℕ × Operand). (bytes ≡ mapped_words y.0 y.1) × (y.0 < 2 ^ 32) × OperandFits y.1) is (here, left.1, right.1)
 
+-- the number of a map and the word of an operand with a space between are read as those two
 pub mapped_again : (map : ℕ) (arg : Operand) → map < 2 ^ 32 → OperandFits arg → mapped_of (mapped_words map arg) ≡ Some (map, arg)
 unfolding mapped_of
 mapped_again map arg small fits =
@@ -233,9 +254,11 @@ mapped_again map arg small fits =
     ∙ ap (λ (o : Option (List ℕ)). o >>= λ rest. operand_of rest >>= λ arg. Some (map, arg)) (after_again (codes " ") (operand_word arg))
     ∙ ap (λ (o : Option Operand). o >>= λ arg. Some (map, arg)) (operand_of_again arg fits)
 
+-- two numbers with a space between
 abbrev pub number_words : ℕ → ℕ → List ℕ
 number_words left right = decimal left ++ codes " " ++ decimal right
 
+-- bytes that are read as two numbers are these with a space between, each of 32 bits
 pub numbers_found : (bytes : List ℕ) (x : ℕ × ℕ) → numbers_of bytes ≡ Some x → (bytes ≡ number_words x.0 x.1) × (x.0 < 2 ^ 32) × (x.1 < 2 ^ 32)
 unfolding numbers_of
 numbers_found bytes x e =
@@ -250,6 +273,7 @@ numbers_found bytes x e =
     ∙ sym (append_assoc (decimal a.0.0) (codes " ") (decimal d.0)) in
     subst (λ (y : ℕ × ℕ). (bytes ≡ number_words y.0 y.1) × (y.0 < 2 ^ 32) × (y.1 < 2 ^ 32)) is (here, left.1, right.1)
 
+-- two numbers with a space between are read as those two
 pub numbers_again : (left right : ℕ) → left < 2 ^ 32 → right < 2 ^ 32 → numbers_of (number_words left right) ≡ Some (left, right)
 unfolding numbers_of
 numbers_again left right small_left small_right =
@@ -261,6 +285,7 @@ numbers_again left right small_left small_right =
 
 -- ---- places
 
+-- bytes that are read as n places below a length are their words: n of them, each below that length
 pub places_found : (n len : ℕ) (bytes places : List ℕ) → places_of n len bytes ≡ Some places → (bytes ≡ flat_map place_word places) × (length places ≡ n) × AllByRecursion (λ p. p < len) places
 unfolding places_of
 places_found zero len bytes places e =
@@ -279,10 +304,12 @@ places_found (suc n) len bytes places e =
     after_found (codes " ") bytes a.0 a.1 ∙ ap (λ (r : List ℕ). codes " " ++ r) first.0 ∙ ap (λ (r : List ℕ). codes " " ++ (decimal b.0.0 ++ r)) others.0 in
     subst (λ (ps : List ℕ). (bytes ≡ flat_map place_word ps) × (length ps ≡ suc n) × AllByRecursion (λ p. p < len) ps) is (here, ap suc others.1, (ltb-true b.0.0 len h.0, others.2))
 
+-- no digit stands in front of the words of places, since each begins with a space
 behind_place : (places : List ℕ) → EndsNumber (flat_map place_word places)
 behind_place [] = tt
 behind_place (p ∷ ps) = refl
 
+-- the words of places below a length of 32 bits are read as those places
 pub places_again : (len : ℕ) (places : List ℕ) → len < 2 ^ 32 → AllByRecursion (λ p. p < len) places → places_of (length places) len (flat_map place_word places) ≡ Some places
 unfolding places_of after whole
 places_again len [] short all = refl

@@ -11,6 +11,7 @@ pub bind_some : {A B : Type 0} (o : Option A) (f : A → Option B) (y : B) → (
 bind_some (Some x) f y e = (x, refl, e)
 bind_some None f y e = absurd cc
 
+-- of two options with something in them that are equal, what is in them is equal
 pub same_some : {A : Type 0} (x y : A) → ◌≡◌ {A = Option A} (Some x) (Some y) → x ≡ y
 same_some x y e = cc
 
@@ -19,10 +20,12 @@ pub chosen : {A : Type 0} (b : Bool) (x y z : A) → cond b x y ≡ z → ((b �
 chosen true x y z e = inl (refl, e)
 chosen false x y z e = inr (refl, e)
 
+-- what gave something only where a test holds: the test held, and this was given
 pub passed : {A : Type 0} (b : Bool) (x : Option A) (y : A) → cond b x None ≡ Some y → (b ≡ true) × (x ≡ Some y)
 passed true x y e = (refl, e)
 passed false x y e = absurd cc
 
+-- what gave something only where a test fails: the test failed, and this was given
 pub not_passed : {A : Type 0} (b : Bool) (x : Option A) (y : A) → cond b None x ≡ Some y → (b ≡ false) × (x ≡ Some y)
 not_passed true x y e = absurd cc
 not_passed false x y e = (refl, e)
@@ -38,6 +41,7 @@ after_found (w ∷ ws) (b ∷ bs) rest e =
     let head : w ≡ b = eqb-true w b h.0 in
     cc
 
+-- behind a word stands what was put behind it
 pub after_again : (word rest : List ℕ) → after word (word ++ rest) ≡ Some rest
 unfolding after
 after_again [] rest = refl
@@ -59,6 +63,7 @@ behind_found word bytes f otherwise x e = by (after word bytes) refl e
     by (Some rest) is h = inl (rest, after_found word bytes rest is, h)
     by None is h = inr h
 
+-- where one of two gave something, it was the first or else the second
 pub or_found : {A : Type 0} (o other : Option A) (x : A) → or_else o other ≡ Some x → (o ≡ Some x) ⊎ (other ≡ Some x)
 or_found (Some y) other x e = inl e
 or_found None other x e = inr e
@@ -67,9 +72,10 @@ or_found None other x e = inr e
 pub is_word : (bytes word : List ℕ) → bytes_eq bytes word ≡ true → bytes ≡ word
 is_word bytes word e = (bytes_eq-Decides bytes word).0 e
 
--- a length that is 0 or not
+-- bytes are there where the test of their length against 0 fails
 pub some_bytes : (bytes : List ℕ) (r : Bool) → r ≡ (length bytes == 0) → r ≡ false → bytes ≡ [] → ⊥
 some_bytes bytes r is f none = let t : (length bytes == 0) ≡ true = eq-eqb (length bytes) 0 (ap length none) in absurd (cc)
 
+-- no bytes are there where the test of their length against 0 holds
 pub no_bytes : (bytes : List ℕ) (r : Bool) → r ≡ (length bytes == 0) → r ≡ true → bytes ≡ []
 no_bytes bytes r is t = nil_from_length bytes (eqb-true (length bytes) 0 (sym is ∙ t))

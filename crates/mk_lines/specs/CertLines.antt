@@ -1,10 +1,11 @@
 -- The lines of a certificate: one for each block and one for each claim.
-use Rattle.std.specs.Prelude.{ℕ, ◌^◌, ◌<◌, List, ◌++◌, codes, decimal}
+use Rattle.std.specs.Prelude.{ℕ, List, ◌++◌, codes, decimal}
 use Rattle.mk_ssa.specs.declared.Operand.{Operand}
 use Rattle.mk_ssa.specs.declared.Op.{Op}
 use Rattle.mk_ssa.specs.declared.Op.TheVariants.{Const, PubAdd, PubMul, PubSq, PubMap, Lift, Add, AddPub, Scale, Sq, Map, Mul, Refresh}
 use Rattle.mk_ssa.specs.Operators.{operator_word}
-use Rattle.mk_lines.specs.Words.{line, hex_byte, operand_word, OperandFits}
+use Rattle.mk_lines.specs.Words.{line, operand_word}
+use Rattle.mk_field.specs.Digits.{hex_byte}
 
 -- the line of a block of this kind with these words behind it
 abbrev pub block_line : List ℕ → List ℕ → List ℕ
@@ -37,22 +38,6 @@ argument_words (Refresh arg) = operand_word arg
 -- the line of a block
 abbrev pub op_line : Op → List ℕ
 op_line op = block_line (operator_word op) (argument_words op)
-
--- the number of each operand has 32 bits, that of a map too, and a constant is a byte
-abbrev pub OpFits : Op → Type 0
-OpFits (Const value) = value < 256
-OpFits (PubAdd left right) = OperandFits left × OperandFits right
-OpFits (PubMul left right) = OperandFits left × OperandFits right
-OpFits (PubSq arg) = OperandFits arg
-OpFits (PubMap map arg) = (map < 2 ^ 32) × OperandFits arg
-OpFits (Lift arg) = OperandFits arg
-OpFits (Add left right) = OperandFits left × OperandFits right
-OpFits (AddPub left right) = OperandFits left × OperandFits right
-OpFits (Scale left right) = OperandFits left × OperandFits right
-OpFits (Sq arg) = OperandFits arg
-OpFits (Map map arg) = (map < 2 ^ 32) × OperandFits arg
-OpFits (Mul left right) = OperandFits left × OperandFits right
-OpFits (Refresh arg) = OperandFits arg
 
 -- the line of a claim
 abbrev pub claim_line : Operand → List ℕ

@@ -1,18 +1,14 @@
 -- The lines of a code: one for each additive map, one for each instruction and one for each output.
-use Rattle.std.specs.Prelude.{◌≡◌, ℕ, zero, suc, ◌<◌, List, [], ◌++◌, length, take, drop, flat_map, codes, decimal}
-use Rattle.std.specs.List.{AllByRecursion}
+use Rattle.std.specs.Prelude.{ℕ, zero, suc, List, [], ◌++◌, take, drop, flat_map, codes, decimal}
 use Rattle.mk_field.specs.declared.map.AddMap.{AddMap}
 use Rattle.mk_code.specs.declared.instr.Instr.{Instr}
 use Rattle.mk_code.specs.declared.instr.Instr.TheVariants.{Rnd, Const, Copy, Add, Mul, Sq, Map}
-use Rattle.mk_lines.specs.Words.{line, hex_byte}
+use Rattle.mk_lines.specs.Words.{line}
+use Rattle.mk_field.specs.Digits.{hex_byte}
 
 -- the line of a map: the images of the eight bits, that of bit 0 first
 abbrev pub map_line : AddMap → List ℕ
 map_line map = line (codes "map " ++ flat_map hex_byte map.images)
-
--- a map has the images of eight bits, which are bytes
-abbrev pub MapFits : AddMap → Type 0
-MapFits map = (length map.images ≡ 8) × AllByRecursion (λ b. b < 256) map.images
 
 -- the line of an instruction
 abbrev pub instr_line : Instr → List ℕ

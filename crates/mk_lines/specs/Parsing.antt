@@ -1,6 +1,7 @@
 -- Reading the words of a line from its front on, as lists.
 use Rattle.std.specs.Prelude.{◌≡◌, ℕ, zero, suc, ◌+◌, ◌-◌, ◌*◌, ◌^◌, ◌==◌, Bool, true, false, ◌&&◌, not, List, [], ◌∷◌, length, drop, take_while, Option, Some, None, nat_lt, bytes_eq, codes, if◌then◌else◌}
 use Rattle.std.specs.Char.{is_ascii_digit}
+use Rattle.mk_base.specs.Digits.{valued}
 use Rattle.mk_field.specs.declared.map.AddMap.{AddMap}
 use Rattle.mk_ssa.specs.declared.Operand.{Operand}
 use Rattle.mk_ssa.specs.declared.Operand.TheVariants.{Secret, Public, Block}
@@ -29,11 +30,6 @@ after (w ∷ ws) (b ∷ bs) = if w == b then after ws bs else None
 -- what was read, where nothing stands behind it
 unfoldable pub whole : {A : Type 0} → A × List ℕ → Option A
 whole read = if nat_lt (length read.1) 1 then Some read.0 else None
-
--- the number that digits make, behind those that make n
-unfoldable pub valued : ℕ → List ℕ → ℕ
-valued n [] = n
-valued n (c ∷ cs) = valued (n * 10 + (c - 48)) cs
 
 -- no leading zero
 unfoldable pub leads : List ℕ → Bool
@@ -74,6 +70,7 @@ hex_at (c ∷ d ∷ bs) = do
   low ← hex_value d
   Some (high * 16 + low, bs)
 
+-- an element and nothing behind it
 unfoldable pub hex_of : List ℕ → Option ℕ
 hex_of bytes = do
   value ← hex_at bytes
@@ -101,6 +98,7 @@ operand_by kind number =
     if kind == 112 then Some (Public number) else (
     if kind == 98 then Some (Block number) else None))
 
+-- an operand at the front: the letter of its kind and its number
 unfoldable pub operand_at : List ℕ → Option (Operand × List ℕ)
 operand_at [] = None
 operand_at (kind ∷ bs) = do
@@ -108,6 +106,7 @@ operand_at (kind ∷ bs) = do
   operand ← operand_by kind number.0
   Some (operand, number.1)
 
+-- an operand and nothing behind it
 unfoldable pub operand_of : List ℕ → Option Operand
 operand_of bytes = do
   operand ← operand_at bytes

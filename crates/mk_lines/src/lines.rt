@@ -1,8 +1,11 @@
 ghost use Rattle.std.specs.Prelude.{◌≡◌, ◌<◌, length, ◌^◌, ◌++◌, OnOk, string_bytes, flat_map};
 ghost use Rattle.std.specs.List.{AllByRecursion};
-ghost use Rattle.mk_lines.specs.Words.{OperandFits, hex_byte, operand_word};
-ghost use Rattle.mk_lines.specs.CertLines.{block_line, pair_words, mapped_words, op_line, claim_line, OpFits};
-ghost use Rattle.mk_lines.specs.CodeLines.{map_line, instr_line, place_word, out_line, MapFits};
+ghost use Rattle.mk_lines.specs.Words.{operand_word};
+ghost use Rattle.mk_field.specs.Digits.{hex_byte};
+ghost use Rattle.mk_lines.specs.CertLines.{block_line, pair_words, mapped_words, op_line, claim_line};
+ghost use Rattle.mk_lines.specs.CodeLines.{map_line, instr_line, place_word, out_line};
+ghost use Rattle.mk_ssa.specs.Widths.{OperandFits, OpFits};
+ghost use Rattle.mk_field.specs.Maps.{MapFits};
 
 use crate::words::{push_hex, push_operand};
 use mk_code::Instr;

@@ -1,9 +1,11 @@
 //! Reading the words of a line from its front on.
 
-ghost use Rattle.std.specs.Prelude.{◌≡◌, ◌≤◌, length, IfSome, take_while};
+ghost use Rattle.std.specs.Prelude.{◌≡◌, ◌≤◌, true, length, IfSome, take_while};
 ghost use Rattle.std.specs.Char.{is_ascii_digit};
-ghost use Rattle.mk_lines.specs.Parsing.{Tells, after, leads, number_by, number_at, number_of, hex_value, hex_at, hex_of, images_at, map_of, operand_by, operand_at, operand_of, pair_of, mapped_of, numbers_of, public_op_of, single_op_of, pair_op_of, op_of, instr_of};
+ghost use Rattle.std.specs.Str.{all_ascii_digits};
+ghost use Rattle.mk_lines.specs.Parsing.{Tells, after, number_by, number_at, number_of, hex_value, hex_at, hex_of, images_at, map_of, operand_by, operand_at, operand_of, pair_of, mapped_of, numbers_of, public_op_of, single_op_of, pair_op_of, op_of, instr_of};
 
+use mk_base::decimal_number;
 use mk_code::Instr;
 use mk_field::AddMap;
 use mk_ssa::{Op, Operand};
@@ -26,34 +28,12 @@ fn digit_count(bytes: &[u8]) -> usize
         .count()
 }
 
-/// Whether there are digits, and no leading zero.
-#[tactic(auto, unfolding(crate::specs::Parsing::leads))]
-fn leads(digits: &[u8]) -> bool
-    ensures { result ≡ leads digits.now }
-{
-    match digits {
-        [] => false,
-        [_] => true,
-        [first, _, ..] => *first != b'0',
-    }
-}
-
 /// The number of these digits, where it has 32 bits and no leading zero.
-#[tactic(auto, unfolding(crate::specs::Parsing::number_by))]
 fn number_by(digits: &[u8]) -> Option<u32>
+    requires { all_ascii_digits digits.now ≡ true }
     ensures { result ≡ number_by digits.now }
 {
-    if !leads(digits) {
-        return None;
-    }
-    let mut value = 0u64;
-    for digit in digits {
-        value = value * 10 + u64::from(digit.saturating_sub(b'0'));
-        if value > 0xffff_ffff {
-            return None;
-        }
-    }
-    Some(value as u32)
+    decimal_number(digits, u32::MAX)
 }
 
 /// The number at the front, in decimal, which all digits there belong to, and the bytes behind it. `None`

@@ -1,5 +1,7 @@
 ghost use Rattle.std.specs.Prelude.{◌≡◌, ◌++◌, OnOk, string_bytes};
-ghost use Rattle.mk_lines.specs.Words.{OperandFits, operand_word, hex_byte};
+ghost use Rattle.mk_lines.specs.Words.{operand_word};
+ghost use Rattle.mk_field.specs.Digits.{hex_byte};
+ghost use Rattle.mk_ssa.specs.Widths.{OperandFits};
 
 use mk_ssa::Operand;
 use std::alloc::AllocError;

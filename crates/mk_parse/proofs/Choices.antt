@@ -6,6 +6,7 @@ use Rattle.mk_parse.specs.Readers.{Reading, Reader, ◌>>=◌, starts, never, fa
 use Rattle.mk_parse.proofs.ReaderLaws.{Stops, SameHead, Found, Stuck, Reads, BeginsBy, read, refused, ok_same, err_same, cond_ok, cond_err, cond_is, same_head, starts_same, stuck_here, reads_made}
 use Rattle.mk_parse.proofs.Joined.{reads_after, reads_and}
 
+-- where more tokens stop what goes on, those that stopped it do
 pub stops_weaker : (more goes_on : Token → Bool) → ((t : Token) → more t ≡ false → goes_on t ≡ false) → (ts : List Token) → Stops more ts → Stops goes_on ts
 stops_weaker more goes_on h [] s = tt
 stops_weaker more goes_on h (t ∷ ts) s = h t s
@@ -40,6 +41,7 @@ reads_before {goes_on = goes_on} more h reads = record {
 abbrev pub empty : {A : Type 0} → A → Phrase A
 empty value ts a = (ts ≡ []) × (a ≡ value)
 
+-- a reader that takes nothing reads them
 pub reads_empty : {A : Type 0} (value : A) (goes_on : Token → Bool) → Reads (skips value) (empty value) goes_on
 reads_empty {A = A} value goes_on = record {
   found = λ ts a rest e.
@@ -68,12 +70,14 @@ reads_by same reads = record {
   sampled = reads.sampled;
 }
 
+-- a word behind a value, by two steps or by one
 ended_last : {A : Type 0} (a : A) (r : Reading (Unit {0}))
     → (r >>= (λ y. read A (a, y.1)))
     ≡ (((r >>= (λ x. skips tt x.1)) >>= (λ (y : Unit {0} × List Token). read (A × Unit {0}) ((a, y.0), y.1))) >>= (λ x. read A (x.0.0, x.1)))
 ended_last a (Ok x) = refl
 ended_last a (Err bad) = refl
 
+-- a value up to a word, by two steps or by one
 ended_once : {A : Type 0} (word : List ℕ) (r : Reading A)
     → (r >>= (λ x. expects word x.1 >>= (λ y. read A (x.0, y.1))))
     ≡ ((r >>= (λ x. past word (skips tt) x.1 >>= (λ (y : Unit {0} × List Token). read (A × Unit {0}) ((x.0, y.0), y.1)))) >>= (λ x. read A (x.0.0, x.1)))
@@ -83,15 +87,18 @@ ended_once word (Err bad) = refl
 -- the phrase, and then the word or symbol
 module _ {A : Type 0} (word : List ℕ) {reader : Reader A} {phrase : Phrase A} {goes_on : Token → Bool} (reads : Reads reader phrase goes_on)
     (stop : (t : Token) → t.text ≡ word → goes_on t ≡ false) where
+  -- a phrase with the word behind it is the phrase up to that word
   until_to : (ts : List Token) (a : A) → made (λ (x : A × Unit {0}). x.0) (phrase and after word (empty tt)) ts a → until word phrase ts a
   until_to ts a h =
       let x = h.0 in
       let last = h.1.4 in
       (h.1.0, last.0, h.1.2 ∙ ap (λ (l : List Token). h.1.0 ++ l) (last.2 ∙ ap (λ (l : List Token). last.0 ∷ l) last.4.0), last.3, subst (phrase h.1.0) (sym h.2) h.1.3)
 
+  -- and the other way round
   until_from : (ts : List Token) (a : A) → until word phrase ts a → made (λ (x : A × Unit {0}). x.0) (phrase and after word (empty tt)) ts a
   until_from ts a h = ((a, tt), (h.0, h.1 ∷ [], h.2, h.4, (h.1, [], refl, h.3, (refl, refl))), refl)
 
+  -- what is read up to a word is the phrase up to it, and any token may follow
   pub reads_until : Reads (ended word reader) (until word phrase) never
   reads_until =
       let closing : Reads (past word (skips tt)) (after word (empty tt)) never = reads_after word (reads_empty tt never) in
@@ -104,9 +111,11 @@ module _ {A : Type 0} (word : List ℕ) {reader : Reader A} {phrase : Phrase A} 
 module _ {A : Type 0} (test : Token → Bool) (more : Token → Bool)
     {first : Reader A} {phrase : Phrase A} {goes_on : Token → Bool} (reads : Reads first phrase goes_on)
     (begins : BeginsBy test phrase) (stop : (t : Token) → more t ≡ false → goes_on t ≡ false) where
+  -- where the first token passes, the choice is the first reader
   is_first : (ts : List Token) → starts test ts ≡ true → (second : Reader A) → chosen test first second ts ≡ first ts
   is_first ts e second = ap (λ (b : Bool). cond b (first ts) (second ts)) e
 
+  -- where it fails, the second
   is_second : (ts : List Token) → starts test ts ≡ false → (second : Reader A) → chosen test first second ts ≡ second ts
   is_second ts e second = ap (λ (b : Bool). cond b (first ts) (second ts)) e
 
@@ -209,6 +218,7 @@ module _ {A : Type 0} (test : Token → Bool) (more : Token → Bool)
         (λ other s. is_second other (starts_same test ts other s ∙ h.0) fails)
   ]
 
+  -- a choice with no other reader reads the phrase
   pub reads_alone : Reads (chosen test first fails) phrase more
   reads_alone = record {
     found = alone_found;
@@ -223,15 +233,19 @@ module _ {A : Type 0} (test : Token → Bool) (more : Token → Bool)
 -- where the first phrase of a choice is closed
 module _ {A : Type 0} (test : Token → Bool) {second : Reader A} {phrase : Phrase A} {goes_on : Token → Bool} (reads : Reads second phrase goes_on)
     (apart : (back : List Token) (a : A) (rest : List Token) → phrase back a → Stops goes_on rest → starts test (back ++ rest) ≡ false) where
+  -- where the first token fails, the choice is the second reader
   closed_is : (ts : List Token) → starts test ts ≡ false → chosen test fails second ts ≡ second ts
   closed_is ts e = ap (λ (b : Bool). cond b (refused A ts) (second ts)) e
 
+  -- where it passes, nothing is read
   closed_fails : (ts : List Token) → starts test ts ≡ true → chosen test fails second ts ≡ Err ts
   closed_fails ts e = ap (λ (b : Bool). cond b (refused A ts) (second ts)) e
 
+  -- whether the first token passes is the same with other tokens behind
   kept_closed : (ts taken rest other : List Token) (b : Bool) → ts ≡ taken ++ rest → SameHead rest other → starts test ts ≡ b → starts test (taken ++ other) ≡ b
   kept_closed ts taken rest other b parts s e = starts_same test (taken ++ rest) (taken ++ other) (same_head taken rest other s) ∙ ap (starts test) (sym parts) ∙ e
 
+  -- what is found is what the second reader finds
   closed_found : (ts : List Token) (a : A) (rest : List Token) → chosen test fails second ts ≡ Ok (a, rest) → Found (chosen test fails second) phrase ts a rest
   closed_found ts a rest e = elim (cond_is (starts test ts) (refused A ts) (second ts) (Ok (a, rest)) e) [
     | inl h ↦ absurd (let wrong = h.1 in cc)
@@ -245,6 +259,7 @@ module _ {A : Type 0} (test : Token → Bool) {second : Reader A} {phrase : Phra
         })
   ]
 
+  -- where it is stuck no phrase goes on
   closed_stuck : (ts bad : List Token) → chosen test fails second ts ≡ Err bad → Stuck (chosen test fails second) phrase ts bad
   closed_stuck ts bad e = elim (cond_is (starts test ts) (refused A ts) (second ts) (Err bad) e) [
     | inl h ↦ stuck_here (chosen test fails second) phrase ts bad reads.sample reads.sample_value (err_same A ts bad h.1) reads.sampled
@@ -261,6 +276,7 @@ module _ {A : Type 0} (test : Token → Bool) {second : Reader A} {phrase : Phra
         })
   ]
 
+  -- the choice reads the second reader's phrase
   pub reads_closed : Reads (chosen test fails second) phrase goes_on
   reads_closed = record {
     found = closed_found;
@@ -271,18 +287,22 @@ module _ {A : Type 0} (test : Token → Bool) {second : Reader A} {phrase : Phra
     sampled = reads.sampled;
   }
 
+-- any tokens may follow where nothing goes on
 pub stops_never : (ts : List Token) → Stops never ts
 stops_never [] = tt
 stops_never (t ∷ ts) = refl
 
+-- a phrase whose value is changed begins as it did
 pub made_begins : {A B : Type 0} (test : Token → Bool) (f : A → B) (phrase : Phrase A) → BeginsBy test phrase → BeginsBy test (made f phrase)
 made_begins test f phrase begins ts b spelled = begins ts spelled.0 spelled.1
 
+-- two phrases begin as the first does
 pub and_begins : {A B : Type 0} (test : Token → Bool) (first : Phrase A) (second : Phrase B) → BeginsBy test first → BeginsBy test (first and second)
 and_begins test first second begins ts x spelled =
     let b = begins spelled.0 x.0 spelled.3 in
     (b.0, b.1 ++ spelled.1, spelled.2 ∙ ap (λ (l : List Token). l ++ spelled.1) b.2, b.3)
 
+-- a phrase of one token begins with a token that gives a value
 pub one_begins : {A : Type 0} (test : Token → Bool) (Gives : Token → A → Type 0) → ((t : Token) (a : A) → Gives t a → test t ≡ true) → BeginsBy test (one Gives)
 one_begins test Gives passes ts a spelled = (spelled.0, [], spelled.1, passes spelled.0 a spelled.2)
 

@@ -19,6 +19,7 @@ bytes : List Token → ℕ
 bytes [] = 0
 bytes (t ∷ ts) = length t.text + bytes ts
 
+-- two lists of tokens have the bytes of both
 bytes_append : (ts us : List Token) → bytes (ts ++ us) ≡ bytes ts + bytes us
 unfolding bytes
 bytes_append [] us = omega arith
@@ -31,9 +32,11 @@ bytes_fit text left [] rest h = omega arith
 bytes_fit text left (t ∷ ts) rest h =
     omega (arith, bytes_fit text h.0 ts rest h.2, ap length h.1.parts, length-append h.1.gap (t.text ++ h.0), length-append t.text h.0)
 
+-- an element of a map
 abbrev image : Phrase ℕ
 image = made (λ (x : ℕ × Place). x.0) element
 
+-- its token has four bytes
 image_bytes : (ts : List Token) (v : ℕ) → image ts v → 4 ≤ bytes ts
 unfolding bytes
 image_bytes ts v h =
@@ -41,6 +44,7 @@ image_bytes ts v h =
     let four : length t.text ≡ 4 = ap length h.1.2.0.4 in
     omega (arith, ap bytes h.1.1, four)
 
+-- so has each of those behind commas
 images_bytes : (ts : List Token) (vs : List ℕ) → many (after (codes ",") image) ts vs → 4 * length vs ≤ bytes ts
 unfolding bytes
 images_bytes ts [] h = omega arith
@@ -49,6 +53,7 @@ images_bytes ts (v ∷ vs) h =
     let others = images_bytes h.1 vs h.4 in
     omega (arith, one, others, ap bytes h.2, bytes_append h.0 h.1, ap bytes h.3.2)
 
+-- and so each of all of them
 all_images_bytes : (ts : List Token) (vs : List ℕ) → separated (codes ",") image ts vs → 4 * length vs ≤ bytes ts
 unfolding bytes
 all_images_bytes ts vs h =
@@ -78,11 +83,13 @@ counted_eight (images ∷ others) =
 declared : What → ℕ
 declared w = counted (images_with w [])
 
+-- the images of one more declaration
 declared_more : (w : What) (others : List (List ℕ)) → counted (images_with w others) ≡ declared w + counted others
 unfolding counted declared
 declared_more (what.Map images) others = omega arith
 declared_more (what.Var class size) others = omega arith
 
+-- the tokens of a map have four bytes for each image
 map_bytes : (ts : List Token) (d : Decl) → map_declaration ts d → 4 * declared d.what ≤ bytes ts
 unfolding bytes counted declared
 map_bytes ts d (x, (t, rest, head, is_map, (front, back, parts, is_name, (u, inside, equals, is_equals, (values, last, closed, is_closed, images)))), is) =
@@ -90,11 +97,13 @@ map_bytes ts d (x, (t, rest, head, is_map, (front, back, parts, is_name, (u, ins
     let same : declared d.what ≡ length x.1 + 0 = ap (λ (d : Decl). counted (images_with d.what [])) is in
     omega (arith, four, same, ap bytes head, ap bytes parts, bytes_append front back, ap bytes equals, ap bytes closed, bytes_append values (last ∷ []))
 
+-- so have those of any declaration
 declaration_bytes : (ts : List Token) (d : Decl) → declaration ts d → 4 * declared d.what ≤ bytes ts
 unfolding counted declared
 declaration_bytes ts d (inl h) = map_bytes ts d h
 declaration_bytes ts d (inr h) = let none : declared d.what ≡ 0 = ap (λ (d : Decl). counted (images_with d.what [])) h.2 in omega (arith, none)
 
+-- and those of a list of declarations
 declarations_bytes : (ts : List Token) (ds : List Decl) → many declaration ts ds → 4 * counted (maps_of ds) ≤ bytes ts
 unfolding counted
 declarations_bytes ts [] h = omega arith

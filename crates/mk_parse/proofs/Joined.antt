@@ -77,6 +77,7 @@ module _ {A : Type 0} (word : List ℕ) {reader : Reader A} {phrase : Phrase A} 
     sampled = past_sample;
   }
 
+-- a phrase behind a word begins with the word
 pub after_begins : {A : Type 0} (word : List ℕ) (phrase : Phrase A) → BeginsBy (says word) (after word phrase)
 after_begins word phrase ts a spelled = (spelled.0, spelled.1, spelled.2, is_says word spelled.0 spelled.3)
 

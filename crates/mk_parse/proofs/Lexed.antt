@@ -6,12 +6,14 @@ use Rattle.std.proofs.lemmas.Bool.{eqb-true, eq-eqb, both_ways}
 use Rattle.std.proofs.lemmas.List.Elements.{All-push}
 use Rattle.std.proofs.Math.Seq.{take-add}
 use Rattle.mk_base.specs.declared.Place.{Place}
-use Rattle.mk_ast.specs.Tokens.{Token as Spelled, IsToken, IsGap, IsLastGap, Next, BeginsWith, AreTokens, place_behind, place_of}
+use Rattle.mk_ast.specs.Tokens.{Token as Spelled, reserved, IsToken, IsGap, IsLastGap, Next, BeginsWith, AreTokens, place_behind, place_of}
 use Rattle.mk_ast.specs.Spells.{NoGapBegins}
-use Rattle.mk_parse.specs.Lexing.{seen, IsOfKind, IsWithin, IsPlaced, IsGapBetween, IsTokenBetween, NoTokenBegins, AreSpans, IsLexed, IsFirstBad, AreAllTokens}
+use Rattle.mk_parse.specs.Lexing.{seen, kind_by, IsOfKind, IsWithin, IsPlaced, IsGapBetween, IsTokenBetween, NoTokenBegins, AreSpans, IsLexed, IsFirstBad, AreAllTokens}
 use Rattle.mk_parse.specs.declared.token.Token.{Token}
-use Rattle.mk_parse.specs.declared.token.TokenKind.{TokenKind}
-use Rattle.mk_parse.specs.declared.token.TokenKind.TheVariants.{Word, Number, Element, Symbol}
+use Rattle.mk_parse.specs.declared.token.Written.{Written}
+use Rattle.mk_parse.specs.declared.token.Written.TheVariants.{Name, Reserved, Number, Element, Symbol}
+use Rattle.mk_parse.specs.Reading.{is_among}
+use Rattle.mk_parse.proofs.Terminals.{among_sound, among_complete}
 use Rattle.mk_parse.proofs.Gaps.{gap_append, gap_unique, last_gap_alone}
 use Rattle.mk_parse.proofs.Munching.{token_begins, token_unique}
 use Rattle.mk_parse.proofs.Placing.{place_small, place_of_drop}
@@ -33,21 +35,25 @@ pub forward_placed : (text : List ℕ) (i n : ℕ) (at after : Place) → IsPlac
 forward_placed text i n at after placed short h = (short, h (take i text) placed.1 ∙ ap place_behind (sym (take_on text i n)))
 
 -- a token has a kind
-kind_of_token : (word rest : List ℕ) → IsToken word rest → (kind : TokenKind) × IsOfKind kind word
+kind_of_token : (word rest : List ℕ) → IsToken word rest → (kind : Written) × IsOfKind kind word
 kind_of_token word rest (inl symbol) = (Symbol, symbol)
-kind_of_token word rest (inr (inl h, none)) = (Word, h)
-kind_of_token word rest (inr (inr (inl h), none)) = (Number, h)
-kind_of_token word rest (inr (inr (inr h), none)) = (Element, h)
+kind_of_token word rest (inr (inl h, none)) = by (is_among reserved word) refl
+  where
+    by : (b : Bool) → is_among reserved word ≡ b → (kind : Written) × IsOfKind kind word
+    by true e = (Reserved, (h, among_sound reserved word e))
+    by false e = (Name, (h, λ among. both_ways (is_among reserved word) e (among_complete reserved word among)))
+kind_of_token word rest (inr (inr (inl h), none)) = (Number h.0, h.1)
+kind_of_token word rest (inr (inr (inr h), none)) = (Element h.0, h.1)
 
 -- no token begins where the bytes of the only length have no kind
-pub no_token : (here : List ℕ) (n : ℕ) → ((word rest : List ℕ) → here ≡ word ++ rest → IsToken word rest → length word ≡ n) → ((kind : TokenKind) → IsOfKind kind (take n here) → ⊥) → NoTokenBegins here
+pub no_token : (here : List ℕ) (n : ℕ) → ((word rest : List ℕ) → here ≡ word ++ rest → IsToken word rest → length word ≡ n) → ((kind : Written) → IsOfKind kind (take n here) → ⊥) → NoTokenBegins here
 no_token here n alone none word rest e p =
     let found = kind_of_token word rest p in
     let same : take n here ≡ word = ap (take n) e ∙ take_at word rest n (alone word rest e p) in
     none found.0 (subst (λ (w : List ℕ). IsOfKind found.0 w) (sym same) found.1)
 
 -- bytes of a kind that are a token
-pub token_between : (text here : List ℕ) (i n : ℕ) (kind : TokenKind) → here ≡ drop i text → IsOfKind kind (take n here) → IsToken (take n here) (drop n here) → IsTokenBetween text i kind (i + n)
+pub token_between : (text here : List ℕ) (i n : ℕ) (kind : Written) → here ≡ drop i text → IsOfKind kind (take n here) → IsToken (take n here) (drop n here) → IsTokenBetween text i kind (i + n)
 token_between text here i n kind is fits token =
     let some : 0 < length (take n here) = (token_begins (take n here) (drop n here) token).0 in
     let count : i + n - i ≡ n = omega arith in
@@ -71,6 +77,7 @@ abbrev pub ended : ℕ → List Token → ℕ
 ended start [] = start
 ended start (token ∷ tokens) = ended token.to tokens
 
+-- behind one more token the tokens end where it does
 ended_push : (start : ℕ) (tokens : List Token) (token : Token) → ended start (tokens ++ token ∷ []) ≡ token.to
 ended_push start [] token = refl
 ended_push start (t ∷ ts) token = ended_push t.to ts token
@@ -91,7 +98,7 @@ pub record Reached (text : List ℕ) (tokens : List Token) (index : ℕ) (at : P
   pub spans : AreSpans text 0 tokens
 
 -- a gap before a token is no last one
-gap_before : (text : List ℕ) (e i : ℕ) (kind : TokenKind) (j : ℕ) → IsGapBetween text e i → IsTokenBetween text i kind j → IsGap (take (i - e) (drop e text))
+gap_before : (text : List ℕ) (e i : ℕ) (kind : Written) (j : ℕ) → IsGapBetween text e i → IsTokenBetween text i kind j → IsGap (take (i - e) (drop e text))
 gap_before text e i kind j (le, inl gap) token = gap
 gap_before text e i kind j (le, inr last) token =
     let some = (token_begins (take (j - i) (drop i text)) (drop j text) token.2).0 in
@@ -99,12 +106,12 @@ gap_before text e i kind j (le, inr last) token =
 
 -- a token and the gap behind it
 pub reached_more : (text : List ℕ) (tokens : List Token) (token : Token) (index : ℕ) (at after : Place) → Reached text tokens token.from token.at
-    → IsTokenBetween text token.from token.kind token.to → IsPlaced text token.to after → IsPlaced text index at → IsGapBetween text token.to index → NoGapBegins (drop index text) → Reached text (tokens ++ token ∷ []) index at
-reached_more text tokens token index at after r between behind placed gap begins =
+    → IsTokenBetween text token.from token.written token.to → token.kind ≡ kind_by token.written → IsPlaced text token.to after → IsPlaced text index at → IsGapBetween text token.to index → NoGapBegins (drop index text) → Reached text (tokens ++ token ∷ []) index at
+reached_more text tokens token index at after r between kind behind placed gap begins =
     let e = ended 0 tokens in
     let word = take (token.to - token.from) (drop token.from text) in
     let last = ended_push 0 tokens token in
-    let space = gap_before text e token.from token.kind token.to r.gap between in
+    let space = gap_before text e token.from token.written token.to r.gap between in
     let bytes : word ++ drop token.to text ≡ drop token.from text = parts_between text token.from token.to (omega arith) in
     let next : Next text (drop e text) (seen text token) (drop token.to text) = record {
       gap = take (token.from - e) (drop e text);
@@ -119,7 +126,7 @@ reached_more text tokens token index at after r between behind placed gap begins
           (subst (λ (ts : List Spelled). BeginsWith text text ts (drop token.to text)) (sym (map_push (seen text) tokens token)) (begins_push text text (map (seen text) tokens) (drop e text) (seen text token) (drop token.to text) r.before next));
       gap = subst (λ (n : ℕ). IsGapBetween text n index) (sym last) gap;
       begins = begins;
-      within = All-push (IsWithin text) tokens token r.within (omega arith, behind.0, between.1);
+      within = All-push (IsWithin text) tokens token r.within (omega arith, behind.0, between.1, kind);
       spans = spans_push text 0 tokens token r.spans r.gap.0 space;
     }
 
@@ -143,6 +150,7 @@ reached_end text tokens index at whole r stuck is =
       spans = r.spans;
     }
 
+-- tokens of the same bytes at the same place are the same
 same_token : (a b : List ℕ) (p q : Place) → a ≡ b → p ≡ q → ◌≡◌ {A = Spelled} (record { text = a; at = p }) (record { text = b; at = q })
 same_token a b p q e f = cc
 

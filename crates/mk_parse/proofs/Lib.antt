@@ -7,6 +7,7 @@ mod Terminals
 mod Loops
 mod IndexPhrases
 mod ExpressionPhrases
+mod KindTests
 mod StatementPhrases
 pub mod Gaps
 pub mod Munching

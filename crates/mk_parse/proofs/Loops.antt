@@ -157,5 +157,6 @@ passed stop (Err y) new first total is stuck h =
 pub chosen_first : {A : Type 0} (test : Token → Bool) (first second : Reader A) (ts : List Token) (b : Bool) → b ≡ starts test ts → b ≡ true → chosen test first second ts ≡ first ts
 chosen_first test first second ts b is e = ap (λ (c : Bool). cond c (first ts) (second ts)) (sym is ∙ e)
 
+-- and where the test failed, the second reader
 pub chosen_second : {A : Type 0} (test : Token → Bool) (first second : Reader A) (ts : List Token) (b : Bool) → b ≡ starts test ts → b ≡ false → chosen test first second ts ≡ second ts
 chosen_second test first second ts b is e = ap (λ (c : Bool). cond c (first ts) (second ts)) (sym is ∙ e)

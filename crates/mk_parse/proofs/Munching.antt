@@ -1,8 +1,7 @@
 -- How far a token goes.
-use Rattle.std.proofs.Common.{◌≡◌, ℕ, zero, suc, ◌+◌, ◌<◌, ◌≤◌, Bool, true, false, ◌⊎◌, List, [], ◌∷◌, ◌++◌, length, take, drop, get_or, Option, Some, None, nat_lt, nat_le, ◌-◌, refl, sym, ap, subst, ◌∙◌, inl, inr, arith, length-append}
-use Rattle.std.specs.Prelude.{◌||◌, ◌&&◌, ◌==◌, not, cond, IsTrue, Contains, codes, Decides, MatchOption, map, min}
+use Rattle.std.proofs.Common.{◌≡◌, ℕ, zero, suc, ◌+◌, ◌<◌, ◌≤◌, Bool, true, false, ◌⊎◌, List, [], ◌∷◌, ◌++◌, length, take, drop, get_or, Some, None, nat_lt, nat_le, ◌-◌, refl, sym, ap, subst, ◌∙◌, inl, inr, arith, length-append}
+use Rattle.std.specs.Prelude.{◌||◌, ◌&&◌, ◌==◌, not, cond, IsTrue, Contains, codes, Decides, map, min}
 use Rattle.std.specs.List.{prefix_len, AllByRecursion}
-use Rattle.std.specs.Option.{is_some}
 use Rattle.std.specs.Char.{is_ascii_alphabetic, is_ascii_alphanumeric, is_ascii_digit}
 use Rattle.std.specs.Int.{is_in_range}
 use Rattle.std.specs.Str.{all_ascii_digits}
@@ -13,8 +12,8 @@ use Rattle.std.proofs.lemmas.List.Elements.{All-from_recursion, All-contains, Co
 use Rattle.mk_ast.specs.Tokens.{is_blank, goes_on, begins_word, hex_value, IsWord, IsNumber, IsElement, IsToken, NothingGoesOn, symbols}
 use Rattle.mk_ast.specs.Spells.{NoGapBegins}
 use Rattle.mk_parse.specs.Lexing.{IsOfKind}
-use Rattle.mk_parse.specs.declared.token.TokenKind.{TokenKind}
-use Rattle.mk_parse.specs.declared.token.TokenKind.TheVariants.{Word, Number, Element, Symbol}
+use Rattle.mk_parse.specs.declared.token.Written.{Written}
+use Rattle.mk_parse.specs.declared.token.Written.TheVariants.{Name, Reserved, Number, Element, Symbol}
 use Rattle.mk_parse.proofs.Decoding.{number_parts}
 
 -- a word, a number or an element
@@ -30,6 +29,7 @@ by_digit : (d u l x : Bool) → d ≡ true → (d || u || l || x) ≡ true
 by_digit true u l x h = refl
 by_digit false u l x h = absurd (false≢true h)
 
+-- a letter passed
 by_letter : (d u l x : Bool) → (u || l) ≡ true → (d || u || l || x) ≡ true
 by_letter true u l x h = refl
 by_letter false true l x h = refl
@@ -99,6 +99,7 @@ abbrev fits_symbol : List ℕ → Bool
 fits_symbol [] = false
 fits_symbol (b ∷ bs) = not (goes_on b) && not (is_blank b || b == 35) && (length bs == cond (b == 46) 1 0)
 
+-- each symbol is so
 symbols_fit : (t : List ℕ) → Contains symbols t → fits_symbol t ≡ true
 symbols_fit t h = All-contains (λ (s : List ℕ). fits_symbol s ≡ true) symbols t (All-from_recursion (λ (s : List ℕ). fits_symbol s ≡ true) symbols (refl, (refl, (refl, (refl, (refl, (refl, (refl, (refl, (refl, (refl, (refl, (refl, (refl, tt)))))))))))))) h
 
@@ -142,6 +143,7 @@ unfoldable pub token_length : List ℕ → ℕ
 token_length [] = 0
 token_length (b ∷ bs) = cond (goes_on b) (prefix_len goes_on (b ∷ bs)) (cond (b == 46) 2 1)
 
+-- a token has the length that is told from the bytes at its front
 pub token_length_is : (t rest : List ℕ) → IsToken t rest → length t ≡ token_length (t ++ rest)
 unfolding token_length
 token_length_is [] rest (inl symbol) = absurd (false≢true (symbols_fit [] symbol))
@@ -197,33 +199,26 @@ whole_run bytes n (inr none) run = absurd (first n bytes (run_goes_on (take n by
     first (suc n) (b ∷ bs) h none = both_ways (goes_on b) none h.1.0
 
 -- bytes of some kind are a token, as they are as many as go on or none goes on
-pub piece_whole : (bytes : List ℕ) (n : ℕ) → (n ≡ prefix_len goes_on bytes) ⊎ (goes_on (get_or bytes 0 0) ≡ false) → (kind : TokenKind) → IsOfKind kind (take n bytes) → IsToken (take n bytes) (drop n bytes)
+pub piece_whole : (bytes : List ℕ) (n : ℕ) → (n ≡ prefix_len goes_on bytes) ⊎ (goes_on (get_or bytes 0 0) ≡ false) → (kind : Written) → IsOfKind kind (take n bytes) → IsToken (take n bytes) (drop n bytes)
 piece_whole bytes n h Symbol fits = inl fits
-piece_whole bytes n h Word fits = whole_run bytes n h (inl fits)
-piece_whole bytes n h Number fits = whole_run bytes n h (inr (inl fits))
-piece_whole bytes n h Element fits = whole_run bytes n h (inr (inr fits))
-
--- the kind that a test found
-pub kind_found : (o : Option ℕ) (P : Type 0) (Q : ℕ → Type 0) → MatchOption o P Q → is_some o ≡ true → (n : ℕ) × Q n
-kind_found (Some n) P Q h e = (n, h)
-kind_found None P Q h e = absurd (false≢true e)
-
--- a test that found none
-pub kind_missed : (o : Option ℕ) (P : Type 0) (Q : ℕ → Type 0) → MatchOption o P Q → is_some o ≡ false → P
-kind_missed (Some n) P Q h e = absurd (false≢true (sym e))
-kind_missed None P Q h e = h
+piece_whole bytes n h Name fits = whole_run bytes n h (inl fits.0)
+piece_whole bytes n h Reserved fits = whole_run bytes n h (inl fits.0)
+piece_whole bytes n h (Number m) fits = whole_run bytes n h (inr (inl (m, fits)))
+piece_whole bytes n h (Element value) fits = whole_run bytes n h (inr (inr (value, fits)))
 
 -- bytes of none of the kinds
-pub no_kind : (text : List ℕ) → (IsWord text → ⊥) → ((n : ℕ) → IsNumber n text → ⊥) → ((value : ℕ) → IsElement value text → ⊥) → (Contains symbols text → ⊥) → (kind : TokenKind) → IsOfKind kind text → ⊥
-no_kind text word number element symbol Word h = word h
-no_kind text word number element symbol Number h = number h.0 h.1
-no_kind text word number element symbol Element h = element h.0 h.1
+pub no_kind : (text : List ℕ) → (IsWord text → ⊥) → ((n : ℕ) → IsNumber n text → ⊥) → ((value : ℕ) → IsElement value text → ⊥) → (Contains symbols text → ⊥) → (kind : Written) → IsOfKind kind text → ⊥
+no_kind text word number element symbol Name h = word h.0
+no_kind text word number element symbol Reserved h = word h.0
+no_kind text word number element symbol (Number n) h = number n h
+no_kind text word number element symbol (Element value) h = element value h
 no_kind text word number element symbol Symbol h = symbol h
 
 -- the symbols of one byte
 abbrev pub marks : List ℕ
 marks = codes ";=,+*%()[]{}"
 
+-- a list of one byte
 abbrev one : ℕ → List ℕ
 one b = b ∷ []
 

@@ -13,9 +13,11 @@ use Rattle.mk_ast.specs.Tokens.{place_behind, place_of}
 abbrev feeds : ℕ → Bool
 feeds b = b == 10
 
+-- whether a byte stays on its line
 abbrev stays : ℕ → Bool
 stays b = not (b == 10)
 
+-- the place of this line and column
 abbrev pub place_at : ℕ → ℕ → Place
 place_at line column = record { line = line; column = column }
 
@@ -35,6 +37,7 @@ since_push front b = ap (λ (xs : List ℕ). length (take_while stays xs)) (reve
     by true xs = omega arith
     by false xs = refl
 
+-- places of the same line and column are the same
 same_place : (l m c d : ℕ) → l ≡ m → c ≡ d → place_at l c ≡ place_at m d
 same_place l m c d e f = cc
 

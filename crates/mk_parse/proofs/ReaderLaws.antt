@@ -48,23 +48,29 @@ pub record Reads {A : Type 0} (reader : Reader A) (phrase : Phrase A) (goes_on :
 abbrev pub BeginsBy : {A : Type 0} → (Token → Bool) → Phrase A → Type 0
 BeginsBy test phrase = (ts : List Token) (a : _) → phrase ts a → (t : Token) × (rest : List Token) × (ts ≡ t ∷ rest) × (test t ≡ true)
 
+-- what was read, and the tokens behind it
 abbrev pub read : (A : Type 0) → A × List Token → Reading A
 read A x = Ok x
 
+-- nothing was read, and the tokens where none fits
 abbrev pub refused : (A : Type 0) → List Token → Reading A
 refused A bad = Err bad
 
+-- two readings of the same answer have the same value and the same tokens left
 pub ok_same : (A : Type 0) (x y : A × List Token) → read A x ≡ read A y → x ≡ y
 ok_same A x y e = cc
 
+-- two refusals of the same answer stand at the same tokens
 pub err_same : (A : Type 0) (x y : List Token) → refused A x ≡ refused A y → x ≡ y
 err_same A x y e = cc
 
+-- what two readers read, the first has read, and then the second
 pub bind_ok : {A B : Type 0} (r : Reading A) (f : A × List Token → Reading B) (y : B × List Token) → (r >>= f) ≡ Ok y
     → (x : A × List Token) × (r ≡ Ok x) × (f x ≡ Ok y)
 bind_ok (Ok x) f y e = (x, refl, e)
 bind_ok (Err bad) f y e = absurd cc
 
+-- where two readers stand still, the first does, or it has read and the second does
 pub bind_err : {A B : Type 0} (r : Reading A) (f : A × List Token → Reading B) (bad : List Token) → (r >>= f) ≡ Err bad
     → (r ≡ Err bad) ⊎ ((x : A × List Token) × (r ≡ Ok x) × (f x ≡ Err bad))
 bind_err (Ok x) f bad e = inr (x, refl, e)
@@ -75,6 +81,7 @@ pub cond_ok : {A : Type 0} (b : Bool) (r : Reading A) (l : List Token) (z : A ×
 cond_ok true r l z e = (refl, e)
 cond_ok false r l z e = absurd cc
 
+-- a choice that stands still chose a reading that does, or none
 pub cond_err : {A : Type 0} (b : Bool) (r : Reading A) (l bad : List Token) → cond b r (Err l) ≡ Err bad
     → ((b ≡ true) × (r ≡ Err bad)) ⊎ ((b ≡ false) × (l ≡ bad))
 cond_err true r l bad e = inl (refl, e)
@@ -85,16 +92,20 @@ pub cond_is : {X : Type 0} (b : Bool) (x y z : X) → cond b x y ≡ z → ((b �
 cond_is true x y z e = inl (refl, e)
 cond_is false x y z e = inr (refl, e)
 
+-- a token that passes for a word has its bytes
 pub says_is : (word : List ℕ) (t : Token) → says word t ≡ true → t.text ≡ word
 says_is word t e = (bytes_eq-Decides t.text word).0 e
 
+-- and a token that has them passes
 pub is_says : (word : List ℕ) (t : Token) → t.text ≡ word → says word t ≡ true
 is_says word t e = (bytes_eq-Decides t.text word).1 e
 
+-- lists with one front and the same first token behind it have the same first token
 pub same_head : (front rest other : List Token) → SameHead rest other → SameHead (front ++ rest) (front ++ other)
 same_head [] rest other s = s
 same_head (t ∷ ts) rest other s = refl
 
+-- lists with the same first token begin with the same test
 pub starts_same : (test : Token → Bool) (rest other : List Token) → SameHead rest other → starts test other ≡ starts test rest
 starts_same test [] [] s = refl
 starts_same test [] (u ∷ us) s = absurd s
@@ -113,6 +124,7 @@ stuck_here reader phrase ts bad sample value e spelled fail = record {
   again = λ other s. fail other (subst (λ (l : List Token). SameHead l other) (sym e) s);
 }
 
+-- a reader that took the token had a value of it, and leaves the others
 given_ok : {A : Type 0} (o : Option A) (t : Token) (ts : List Token) (a : A) (rest : List Token) → given t ts o ≡ Ok (a, rest)
     → (o ≡ Some a) × (ts ≡ rest)
 given_ok {A = A} (Some b) t ts a rest e =
@@ -120,6 +132,7 @@ given_ok {A = A} (Some b) t ts a rest e =
     (ap (λ (x : A × List Token). Some x.0) same, ap (λ (x : A × List Token). x.1) same)
 given_ok None t ts a rest e = absurd cc
 
+-- one that refused it had none, and leaves it
 given_err : {A : Type 0} (o : Option A) (t : Token) (ts bad : List Token) → given t ts o ≡ Err bad → (o ≡ None) × (t ∷ ts ≡ bad)
 given_err (Some b) t ts bad e = absurd cc
 given_err {A = A} None t ts bad e = (refl, err_same A (t ∷ ts) bad e)

@@ -20,12 +20,15 @@ use Rattle.mk_parse.proofs.Munching.{token_unique, token_begins}
 use Rattle.mk_parse.proofs.Many.{all_only, all_found, all_stuck, IsDead}
 use Rattle.mk_parse.proofs.StatementPhrases.{reads_program}
 
+-- the answer that has this program
 abbrev spells_so : Program → Result Program (List Spelled)
 spells_so p = Ok p
 
+-- such answers are the same only of the same program
 ok_program : (p q : Program) → spells_so p ≡ spells_so q → p ≡ q
 ok_program p q e = cc
 
+-- tokens of the same bytes at the same place are the same
 same_token : (t u : Spelled) → u.text ≡ t.text → u.at ≡ t.at → u ≡ t
 same_token t u p q = ap (λ (text : List ℕ). token_by text u.at) p ∙ ap (λ (at : Place). token_by t.text at) q
   where

@@ -1,28 +1,41 @@
 -- What tokens of the program stand for in a text, and where a text has no further token.
 use Rattle.std.specs.Prelude.{◌≡◌, ℕ, ◌-◌, ◌≤◌, ◌<◌, ◌⊎◌, Bool, IsTrue, ◌↔◌, List, [], ◌∷◌, ◌++◌, length, take, drop, map, Contains, All}
 use Rattle.mk_base.specs.declared.Place.{Place}
-use Rattle.mk_ast.specs.Tokens.{Token as Spelled, IsGap, IsLastGap, IsWord, IsNumber, IsElement, IsToken, BeginsWith, AreTokens, place_of, place_behind, symbols}
+use Rattle.mk_ast.specs.Tokens.{Token as Spelled, IsGap, IsLastGap, IsWord, IsName, IsNumber, IsElement, IsToken, BeginsWith, AreTokens, place_of, place_behind, reserved, symbols}
 use Rattle.mk_ast.specs.Spells.{NoGapBegins}
 use Rattle.mk_ast.specs.declared.refusal.SourceRefusal.{SourceRefusal}
 use Rattle.mk_ast.specs.declared.refusal.SourceRefusal.TheVariants.{Syntax, Memory}
 use Rattle.mk_parse.specs.declared.token.Token.{Token}
 use Rattle.mk_parse.specs.declared.token.TokenKind.{TokenKind}
-use Rattle.mk_parse.specs.declared.token.TokenKind.TheVariants.{Word, Number, Element, Symbol}
+use Rattle.mk_parse.specs.declared.token.TokenKind.TheVariants as kind_
+use Rattle.mk_parse.specs.declared.token.Written.{Written}
+use Rattle.mk_parse.specs.declared.token.Written.TheVariants.{Name, Reserved, Number, Element, Symbol}
 
 -- the token of the text that a token of the program is: the bytes of its span, and its place
 abbrev pub seen : List ℕ → Token → Spelled
 seen text token = record { text = take (token.to - token.from) (drop token.from text); at = token.at }
 
--- the bytes that a token of this kind has
-abbrev pub IsOfKind : TokenKind → List ℕ → Type 0
-IsOfKind Word text = IsWord text
-IsOfKind Number text = (n : ℕ) × IsNumber n text
-IsOfKind Element text = (value : ℕ) × IsElement value text
+-- the kind of a token that writes this
+abbrev pub kind_by : Written → TokenKind
+kind_by Name = kind_.Word
+kind_by Reserved = kind_.Word
+kind_by (Number n) = kind_.Number
+kind_by (Element value) = kind_.Element
+kind_by Symbol = kind_.Symbol
+
+-- the bytes of a token that writes this
+abbrev pub IsOfKind : Written → List ℕ → Type 0
+IsOfKind Name text = IsName text
+IsOfKind Reserved text = IsWord text × Contains reserved text
+IsOfKind (Number n) text = IsNumber n text
+IsOfKind (Element value) text = IsElement value text
 IsOfKind Symbol text = Contains symbols text
 
 -- a token's span lies in the text, and its bytes are of its kind
 abbrev pub IsWithin : List ℕ → Token → Type 0
-IsWithin text token = (token.from ≤ token.to) × (token.to ≤ length text) × IsOfKind token.kind (seen text token).text
+IsWithin text token =
+    (token.from ≤ token.to) × (token.to ≤ length text)
+    × IsOfKind token.written (seen text token).text × (token.kind ≡ kind_by token.written)
 
 -- from this index on the spans of the tokens come in order, with nothing but gaps before each of them
 abbrev pub AreSpans : List ℕ → ℕ → List Token → Type 0
@@ -44,8 +57,8 @@ IsGapBetween text from to =
     (from ≤ to)
     × (IsGap (take (to - from) (drop from text)) ⊎ (IsLastGap (take (to - from) (drop from text)) × (drop to text ≡ [])))
 
--- between these indexes is a token of this kind
-abbrev pub IsTokenBetween : List ℕ → ℕ → TokenKind → ℕ → Type 0
+-- between these indexes is a token that writes this
+abbrev pub IsTokenBetween : List ℕ → ℕ → Written → ℕ → Type 0
 IsTokenBetween text from kind to =
     (from < to) × IsOfKind kind (take (to - from) (drop from text)) × IsToken (take (to - from) (drop from text)) (drop to text)
 

@@ -1,15 +1,14 @@
 //! A place in the list of a text's tokens.
 
-ghost use Rattle.std.specs.Prelude.{◌≡◌, ◌≤◌, [], ◌∷◌, length, take, List, MatchOption, All, IsTrue, ◌↔◌};
+ghost use Rattle.std.specs.Prelude.{◌≡◌, ◌≤◌, [], ◌∷◌, length, List, MatchOption, All, IsTrue, ◌↔◌};
 ghost use Rattle.mk_ast.specs.Tokens.{Token as Spelled};
 ghost use Rattle.mk_parse.specs.Lexing.{IsWithin};
 ghost use Rattle.mk_parse.specs.Readers.{starts, says, takes, expects};
-ghost use Rattle.mk_parse.specs.Reading.{is_name, is_name_text, number_text, positive, gives, name_of, number_of, size_of, element_of};
+ghost use Rattle.mk_parse.specs.Reading.{is_name, gives, name_of, number_of, size_of, element_of};
 ghost use Rattle.mk_parse.specs.Answers.{Answers, place_at, seen_tokens};
 
-use crate::lexer::is_word;
+use crate::spelled::Spelled;
 use crate::token::Token;
-use crate::words::{element_value, is_reserved, number_value};
 use mk_ast::Name;
 use mk_base::{Items, Memory, Place};
 use std::alloc::{AllocError, Global};
@@ -43,24 +42,6 @@ impl From<AllocError> for Stop {
 
     fn from(_error: AllocError) -> Stop {
         Stop::Memory
-    }
-}
-
-/// Whether this is a name.
-fn is_name(text: &[u8]) -> bool
-    ensures name { result ≡ is_name_text text.now }
-    ensures short { IsTrue result → length text.now ≤ 64 }
-{
-    is_word(text) && !is_reserved(text)
-}
-
-/// The size that this text is.
-fn size_value(text: &[u8]) -> Option<u32>
-    ensures { result ≡ positive (number_text text.now) }
-{
-    match number_value(text) {
-        Some(0) | None => None,
-        Some(value) => Some(value),
     }
 }
 
@@ -107,13 +88,13 @@ impl<'a> Cursor<'a> {
         self.alloc
     }
 
-    /// The bytes of the next token, and its place.
-    fn first(&self) -> Option<(&'a [u8], Place)>
-        ensures { MatchOption result (self.now ≡ []) (λ x. (rest : List Spelled) × (self.now ≡ record { text = x.0.now; at = x.1 } ∷ rest)) }
+    /// The next token.
+    fn first(&self) -> Option<Spelled<'a>>
+        ensures { MatchOption result (self.now ≡ []) (λ t. (rest : List Spelled) × (self.now ≡ t ∷ rest)) }
     {
         let token = self.rest.first()?;
         let (from, to) = (token.from as usize, token.to as usize);
-        Some((&self.text[from..to], token.at))
+        Some(Spelled::new(token.written, &self.text[from..to], token.at))
     }
 
     /// Goes past the next token.
@@ -136,7 +117,7 @@ impl<'a> Cursor<'a> {
         ensures { result ≡ place_at end self.now }
     {
         match self.first() {
-            Some((_, at)) => at,
+            Some(token) => token.at(),
             None => end,
         }
     }
@@ -146,7 +127,7 @@ impl<'a> Cursor<'a> {
         ensures { result ≡ starts (says word.now) self.now }
     {
         match self.first() {
-            Some((bytes, _)) => bytes == word,
+            Some(token) => token.bytes() == word,
             None => false,
         }
     }
@@ -156,7 +137,7 @@ impl<'a> Cursor<'a> {
         ensures { result ≡ starts is_name self.now }
     {
         match self.first() {
-            Some((bytes, _)) => is_name(bytes),
+            Some(token) => token.is_name(),
             None => false,
         }
     }
@@ -166,7 +147,7 @@ impl<'a> Cursor<'a> {
         ensures { result ≡ starts (gives number_of) self.now }
     {
         match self.first() {
-            Some((bytes, _)) => number_value(bytes).is_some(),
+            Some(token) => token.number().is_some(),
             None => false,
         }
     }
@@ -176,7 +157,7 @@ impl<'a> Cursor<'a> {
         ensures { result ≡ starts (gives element_of) self.now }
     {
         match self.first() {
-            Some((bytes, _)) => element_value(bytes).is_some(),
+            Some(token) => token.element().is_some(),
             None => false,
         }
     }
@@ -196,25 +177,25 @@ impl<'a> Cursor<'a> {
     pub(crate) fn name(&mut self) -> Result<(Name, Place), Stop>
         ensures { Answers result self.new (takes name_of self.old) }
     {
-        let Some((bytes, at)) = self.first() else {
+        let Some(token) = self.first() else {
             return Err(Stop::Here);
         };
-        if !is_name(bytes) {
+        if !token.is_name() {
             return Err(Stop::Here);
         }
-        let name = Items::from_vec(Vec::from_slice(self.alloc, bytes)?);
+        let name = Items::from_vec(Vec::from_slice(self.alloc, token.bytes())?);
         self.skip();
-        Ok((name, at))
+        Ok((name, token.at()))
     }
 
     /// Takes a number.
     pub(crate) fn number(&mut self) -> Result<u32, Stop>
         ensures { Answers result self.new (takes number_of self.old) }
     {
-        let Some((bytes, _)) = self.first() else {
+        let Some(token) = self.first() else {
             return Err(Stop::Here);
         };
-        let Some(value) = number_value(bytes) else {
+        let Some(value) = token.number() else {
             return Err(Stop::Here);
         };
         self.skip();
@@ -225,10 +206,10 @@ impl<'a> Cursor<'a> {
     pub(crate) fn size(&mut self) -> Result<u32, Stop>
         ensures { Answers result self.new (takes size_of self.old) }
     {
-        let Some((bytes, _)) = self.first() else {
+        let Some(token) = self.first() else {
             return Err(Stop::Here);
         };
-        let Some(value) = size_value(bytes) else {
+        let Some(value) = token.size() else {
             return Err(Stop::Here);
         };
         self.skip();
@@ -239,13 +220,13 @@ impl<'a> Cursor<'a> {
     pub(crate) fn element(&mut self) -> Result<(u8, Place), Stop>
         ensures { Answers result self.new (takes element_of self.old) }
     {
-        let Some((bytes, at)) = self.first() else {
+        let Some(token) = self.first() else {
             return Err(Stop::Here);
         };
-        let Some(value) = element_value(bytes) else {
+        let Some(element) = token.element() else {
             return Err(Stop::Here);
         };
         self.skip();
-        Ok((value, at))
+        Ok(element)
     }
 }

@@ -2,12 +2,13 @@
 
 ghost use Rattle.std.specs.Prelude.{◌≡◌, ℕ, ◌+◌, ◌^◌, ◌≤◌, ◌<◌, ◌↔◌, ◌⊎◌, ◌||◌, ◌==◌, ◌++◌, List, [], ◌∷◌, length, take, drop, not, if◌then◌else◌, IfOk, IsTrue, MatchOption, MatchResult, Contains};
 ghost use Rattle.std.specs.List.{prefix_len};
+ghost use Rattle.mk_parse.specs.declared.TheConstants.{MOST_SOURCE_BYTES};
 ghost use Rattle.mk_ast.specs.Tokens.{is_blank, begins_word, goes_on, place_behind, IsGap, IsLastGap, IsToken, IsWord, symbols};
 ghost use Rattle.mk_ast.specs.Spells.{NoGapBegins};
 ghost use Rattle.mk_parse.specs.Lexing.{IsOfKind, IsPlaced, IsGapBetween, IsTokenBetween, IsLexed, AreAllTokens, IsTokenRefusal, NoTokenBegins};
 
-use crate::token::{Token, TokenKind, TokenList};
-use crate::words::{element, number};
+use crate::token::{Token, TokenList, Written};
+use crate::words::{element, is_reserved, number};
 use mk_ast::SourceRefusal;
 use mk_base::{Items, Memory, Place};
 use std::alloc::Global;
@@ -97,7 +98,7 @@ fn run_length(bytes: &[u8]) -> usize
 }
 
 /// Whether this is a word.
-pub(crate) fn is_word(text: &[u8]) -> bool
+fn is_word(text: &[u8]) -> bool
     ensures { IsTrue result ↔ IsWord text.now }
 {
     let [first, rest @ ..] = text else {
@@ -116,21 +117,32 @@ fn is_symbol(text: &[u8]) -> bool
     }
 }
 
+/// The kind of this word.
+fn word_kind(word: &[u8]) -> Written
+    requires { IsWord word.now }
+    ensures { IsOfKind result word.now }
+{
+    if is_reserved(word) {
+        return Written::Reserved;
+    }
+    Written::Name
+}
+
 /// The kind of token that these bytes are.
-fn kind_of(text: &[u8]) -> Option<TokenKind>
-    ensures { MatchOption result ((kind : TokenKind) → IsOfKind kind text.now → ⊥) (λ kind. IsOfKind kind text.now) }
+fn kind_of(text: &[u8]) -> Option<Written>
+    ensures { MatchOption result ((kind : Written) → IsOfKind kind text.now → ⊥) (λ kind. IsOfKind kind text.now) }
 {
     if is_word(text) {
-        return Some(TokenKind::Word);
+        return Some(word_kind(text));
     }
-    if number(text).is_some() {
-        return Some(TokenKind::Number);
+    if let Some(value) = number(text) {
+        return Some(Written::Number(value));
     }
-    if element(text).is_some() {
-        return Some(TokenKind::Element);
+    if let Some(value) = element(text) {
+        return Some(Written::Element(value));
     }
     if is_symbol(text) {
-        return Some(TokenKind::Symbol);
+        return Some(Written::Symbol);
     }
     None
 }
@@ -139,7 +151,7 @@ fn kind_of(text: &[u8]) -> Option<TokenKind>
 fn piece_length(bytes: &[u8]) -> usize
     ensures within { result ≤ length bytes.now }
     ensures alone { (word rest : List ℕ) → bytes.now ≡ word ++ rest → IsToken word rest → length word ≡ result }
-    ensures whole { (kind : TokenKind) → IsOfKind kind (take result bytes.now) → IsToken (take result bytes.now) (drop result bytes.now) }
+    ensures whole { (kind : Written) → IsOfKind kind (take result bytes.now) → IsToken (take result bytes.now) (drop result bytes.now) }
 {
     let [first, ..] = bytes else {
         return 0;
@@ -188,7 +200,7 @@ fn behind_all(at: Place, bytes: &[u8]) -> Place
 
 /// The spot so many bytes on.
 fn forward(text: &[u8], spot: Spot, count: usize) -> Spot
-    requires short { length text.now ≤ 1048576 }
+    requires short { length text.now ≤ MOST_SOURCE_BYTES }
     requires within { spot.index + count ≤ length text.now }
     requires placed { IsPlaced text.now spot.index spot.at }
     ensures index { result.index ≡ spot.index + count }
@@ -203,7 +215,7 @@ fn forward(text: &[u8], spot: Spot, count: usize) -> Spot
 
 /// The spot behind the blanks and comments here.
 fn past_gap(text: &[u8], spot: Spot) -> Spot
-    requires short { length text.now ≤ 1048576 }
+    requires short { length text.now ≤ MOST_SOURCE_BYTES }
     requires placed { IsPlaced text.now spot.index spot.at }
     ensures placed { IsPlaced text.now result.index result.at }
     ensures gap { IsGapBetween text.now spot.index result.index }
@@ -213,8 +225,8 @@ fn past_gap(text: &[u8], spot: Spot) -> Spot
 }
 
 /// The kind of the token here, and the spot behind it.
-fn token_at(text: &[u8], spot: Spot) -> Option<(TokenKind, Spot)>
-    requires short { length text.now ≤ 1048576 }
+fn token_at(text: &[u8], spot: Spot) -> Option<(Written, Spot)>
+    requires short { length text.now ≤ MOST_SOURCE_BYTES }
     requires placed { IsPlaced text.now spot.index spot.at }
     ensures { MatchOption result (NoTokenBegins (drop spot.index text.now)) (λ found. IsTokenBetween text.now spot.index found.0 found.1.index × IsPlaced text.now found.1.index found.1.at) }
 {
@@ -226,17 +238,18 @@ fn token_at(text: &[u8], spot: Spot) -> Option<(TokenKind, Spot)>
 
 /// The tokens at the front of a text, as far as they go.
 pub(crate) fn lex(alloc: Global, text: &[u8]) -> Result<Lexed, Memory>
-    requires { length text.now ≤ 1048576 }
+    requires { length text.now ≤ MOST_SOURCE_BYTES }
     ensures { IfOk result (λ lexed. IsLexed text.now lexed.tokens lexed.end lexed.whole) }
 {
     let mut tokens = Items::new(alloc);
     let mut spot = past_gap(text, START);
-    while let Some((kind, end)) = token_at(text, spot) {
+    while let Some((written, end)) = token_at(text, spot) {
         tokens.push(Token {
-            kind,
+            kind: written.kind(),
             from: spot.index as u32,
             to: end.index as u32,
             at: spot.at,
+            written,
         })?;
         spot = past_gap(text, end);
     }
@@ -250,7 +263,7 @@ pub(crate) fn lex(alloc: Global, text: &[u8]) -> Result<Lexed, Memory>
 /// The tokens of a text of at most 1,048,576 bytes. It is `Syntax` with the first place where a byte
 /// begins no token or a run is a bad token, and `Memory` where memory was wanted and not found.
 pub fn tokens(alloc: Global, text: &[u8]) -> Result<TokenList, SourceRefusal>
-    requires { length text.now ≤ 1048576 }
+    requires { length text.now ≤ MOST_SOURCE_BYTES }
     ensures { MatchResult result (AreAllTokens text.now) (IsTokenRefusal text.now) }
 {
     let Lexed { tokens, end, whole } = lex(alloc, text)?;

@@ -8,9 +8,13 @@ mod indexes;
 mod laws;
 mod lexer;
 mod program;
+mod spelled;
 mod statements;
 mod token;
 mod words;
+
+/// The most bytes of a source text.
+pub const MOST_SOURCE_BYTES: u32 = 1_048_576;
 
 pub use laws::{refusal_law, spelling_law};
 pub use lexer::tokens;

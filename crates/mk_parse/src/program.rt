@@ -1,6 +1,7 @@
 //! Whole programs, by the grammar.
 
 ghost use Rattle.std.specs.Prelude.{◌≡◌, ◌≤◌, [], length, IsTrue, ◌↔◌, IfOk, MatchResult};
+ghost use Rattle.mk_parse.specs.declared.TheConstants.{MOST_SOURCE_BYTES};
 ghost use Rattle.mk_ast.specs.Regular.{IsRegular};
 ghost use Rattle.mk_parse.specs.Answers.{Answers, AnswersAll, place_at};
 ghost use Rattle.mk_parse.specs.Parsed.{IsOnlyProgram, IsParseRefusal, FewMaps};
@@ -57,7 +58,7 @@ impl<'a> Cursor<'a> {
 /// The program that the text spells, which has at most 1,048,576 bytes. `Syntax` comes exactly where
 /// it spells none, with the first place where no program can go on.
 pub fn parse(alloc: Global, text: &[u8]) -> Result<Program, SourceRefusal>
-    requires { length text.now ≤ 1048576 }
+    requires { length text.now ≤ MOST_SOURCE_BYTES }
     ensures answer { MatchResult result (IsOnlyProgram text.now) (IsParseRefusal text.now) }
     ensures regular { IfOk result IsRegular }
     ensures few_maps { IfOk result FewMaps }

@@ -1,7 +1,7 @@
 //! The tokens of a text.
 
 ghost use Rattle.std.specs.Prelude.{◌≡◌, ◌≤◌, length};
-ghost use Rattle.mk_parse.specs.Lexing.{seen};
+ghost use Rattle.mk_parse.specs.Lexing.{seen, kind_by};
 
 use mk_base::{Items, Place};
 
@@ -18,6 +18,35 @@ pub enum TokenKind {
     Symbol,
 }
 
+/// What a token writes: its kind, whether a word is reserved, and the value of a number or an element.
+#[derive(Clone, Copy, Debug, PartialEq, Eq)]
+pub(crate) enum Written {
+    /// A name, which is a word that is not reserved.
+    Name,
+    /// A reserved word.
+    Reserved,
+    /// A number.
+    Number(u32),
+    /// An element.
+    Element(u8),
+    /// A symbol.
+    Symbol,
+}
+
+impl Written {
+    /// The kind of a token that writes this.
+    pub(crate) fn kind(self) -> TokenKind
+        ensures { result ≡ kind_by self }
+    {
+        match self {
+            Written::Name | Written::Reserved => TokenKind::Word,
+            Written::Number(_) => TokenKind::Number,
+            Written::Element(_) => TokenKind::Element,
+            Written::Symbol => TokenKind::Symbol,
+        }
+    }
+}
+
 /// A token: its kind, where its bytes begin and end in the text, and the place of the first of them.
 #[derive(Clone, Copy, Debug, PartialEq, Eq)]
 pub struct Token {
@@ -25,6 +54,7 @@ pub struct Token {
     pub from: u32,
     pub to: u32,
     pub at: Place,
+    pub(crate) written: Written,
 }
 
 impl Token {

@@ -1,38 +1,18 @@
 //! What the bytes of a token say.
 
-ghost use Rattle.std.specs.Prelude.{◌≡◌, ℕ, ◌≤◌, ◌<◌, ◌↔◌, length, slice_index, IfSome, IsTrue, MatchOption, Contains};
+ghost use Rattle.std.specs.Prelude.{◌≡◌, ℕ, ◌≤◌, ◌↔◌, IfSome, IsTrue, MatchOption, Contains};
 ghost use Rattle.mk_ast.specs.Tokens.{hex_value, reserved, IsElement, IsNumber};
-ghost use Rattle.mk_parse.specs.Reading.{number_text, element_text};
 
-/// Whether there is a digit, and `0` is the first one only where it is the only one.
-fn leads(digits: &[u8]) -> bool
-    ensures { IsTrue result ↔ ((0 < length digits.now) × (slice_index digits.now 0 ≡ 48 → length digits.now ≡ 1)) }
-{
-    match digits {
-        [] => false,
-        [_] => true,
-        [first, _, ..] => *first != b'0',
-    }
-}
+use mk_base::decimal_number;
+
+/// The greatest number of a source.
+const GREATEST_NUMBER: u32 = 65_535;
 
 /// The number, of at most 65,535, that this text writes in decimal digits without leading zeros.
 pub(crate) fn number(text: &[u8]) -> Option<u32>
     ensures { MatchOption result ((n : ℕ) → IsNumber n text.now → ⊥) (λ n. IsNumber n text.now) }
 {
-    if !leads(text) {
-        return None;
-    }
-    let mut value = 0u32;
-    for digit in text {
-        if !digit.is_ascii_digit() {
-            return None;
-        }
-        value = value * 10 + u32::from(*digit - b'0');
-        if value > 0xffff {
-            return None;
-        }
-    }
-    Some(value)
+    decimal_number(text, GREATEST_NUMBER)
 }
 
 /// The value of a hexadecimal digit of either case.
@@ -71,20 +51,6 @@ pub(crate) fn element(text: &[u8]) -> Option<u8>
     let high = hex_value(*first)?;
     let low = hex_value(*second)?;
     Some(16 * high + low)
-}
-
-/// The number that this text is, as the reader of numbers gives it.
-pub(crate) fn number_value(text: &[u8]) -> Option<u32>
-    ensures { result ≡ number_text text.now }
-{
-    number(text)
-}
-
-/// The element that this text is, as the reader of elements gives it.
-pub(crate) fn element_value(text: &[u8]) -> Option<u8>
-    ensures { result ≡ element_text text.now }
-{
-    element(text)
 }
 
 /// Whether this word is reserved.

@@ -38,6 +38,7 @@ pub refreshes-long : (marks : Marks) (i : ℕ) (op : Op) → length (refresh_at 
 refreshes-long marks i op =
     omega (arith, length-append (refresh_at marks i 0 op) (refresh_at marks i 1 op), refresh-long marks i 0 op, refresh-long marks i 1 op)
 
+-- a value has as many blocks as marks, and its own
 pub of-long : (marks : Marks) (i : ℕ) (op : Op) → length (blocks_of marks i op) ≡ one (marks i 0) + one (marks i 1) + 1
 of-long marks i op =
     omega (arith, length-append (refresh_at marks i 0 op ++ refresh_at marks i 1 op) (with_operands (refreshed marks i) (renamed marks) op ∷ []), refreshes-long marks i op)

@@ -5,7 +5,6 @@ use Rattle.std.proofs.lemmas.Bool.{cases_Bool, cond-true, cond-false}
 use Rattle.std.proofs.lemmas.List.{take_all}
 use Rattle.std.proofs.lemmas.List.Elements.{All-map}
 use Rattle.std.proofs.lemmas.Option.{slice_get_within, slice_get-get_or}
-use Rattle.mk_code.specs.Listing.{Listing}
 use Rattle.mk_field.specs.Field.{size}
 use Rattle.mk_ssa.specs.declared.Op.{Op}
 use Rattle.mk_ssa.specs.declared.Op.TheVariants.{Const, PubAdd, PubMul, PubSq, PubMap, Lift, Add, AddPub, Scale, Sq, Map, Mul, Refresh}
@@ -15,16 +14,17 @@ use Rattle.mk_ssa.specs.Kinds.{is_public, shared_operands}
 use Rattle.mk_ssa.specs.Values as ssa
 use Rattle.mk_ssa.specs.Values.{Values, draft, IsValues}
 use Rattle.mk_ssa.proofs.Lists.{IsSomeAnd-value, IsSomeAnd-from, slice_get-take, slice_get-front}
+use Rattle.mk_rules.specs.Shape.{Shape}
 use Rattle.mk_rules.specs.Wired.{IsSharedThere, IsPublicThere, IsWired, AllWired, Wired}
-use Rattle.mk_rules.proofs.Operators.{wired-operands, Each}
-use Rattle.mk_rules.proofs.Places.{Wired-more}
+use Rattle.mk_rules.proofs.Operators.{wired-operands}
+use Rattle.mk_rules.proofs.Wired.{Wired-more}
 use Rattle.mk_place.specs.Uses.{plain}
 use Rattle.mk_place.specs.Layout.{Marks, one, blocks_before, own_block, refresh_block, renamed, refreshed, with_operands, blocks_from, laid_out}
-use Rattle.mk_place.proofs.Wiring.{wired-value}
+use Rattle.mk_place.proofs.Wiring.{wired-value, each-at}
 use Rattle.mk_place.proofs.Blocks.{own-there, refresh-there, blocks-length, each-block, blocks-before-after, refresh-within}
 
--- what is wired with one code is wired with another over the same field, inputs and maps
-module _ (a b : Listing) (field : a.field ≡ b.field) (secrets : a.secrets ≡ b.secrets) (publics : a.publics ≡ b.publics) (maps : a.maps ≡ b.maps) where
+-- what is wired over one shape is wired over another with the same field, inputs and maps
+module _ (a b : Shape) (field : a.field ≡ b.field) (secrets : a.secrets ≡ b.secrets) (publics : a.publics ≡ b.publics) (maps : a.maps ≡ b.maps) where
   -- a shared operand
   pub shared-recoded : (before : List Op) (v : Operand) → IsSharedThere a before v → IsSharedThere b before v
   shared-recoded before (Secret k) there = subst (λ (n : ℕ). k < n) secrets there
@@ -63,20 +63,20 @@ module _ (a b : Listing) (field : a.field ≡ b.field) (secrets : a.secrets ≡ 
   wired-recoded before (op ∷ ops) wired = (block-recoded before op wired.0, wired-recoded (before ++ op ∷ []) ops wired.1)
 
 -- blocks of which each is wired behind those before it
-wired-front : (code : Listing) (blocks : List Op) → ((j : ℕ) (op : Op) → slice_get blocks j ≡ Some op → IsWired code (take j blocks) op)
-    → (n : ℕ) → n ≤ length blocks → Wired code (take n blocks)
-wired-front code blocks each zero below = tt
-wired-front code blocks each (suc n) below =
+wired-front : (shape : Shape) (blocks : List Op) → ((j : ℕ) (op : Op) → slice_get blocks j ≡ Some op → IsWired shape (take j blocks) op)
+    → (n : ℕ) → n ≤ length blocks → Wired shape (take n blocks)
+wired-front shape blocks each zero below = tt
+wired-front shape blocks each (suc n) below =
     let next : n + 1 ≡ suc n = omega arith in
     let within : n < length blocks = omega (arith, below) in
-    subst (λ (m : ℕ). Wired code (take m blocks)) next
-    (Wired-more code blocks n (Const 0) within (wired-front code blocks each n (omega (arith, below)))
+    subst (λ (m : ℕ). Wired shape (take m blocks)) next
+    (Wired-more shape blocks n (Const 0) within (wired-front shape blocks each n (omega (arith, below)))
     (each n (get_or blocks n (Const 0)) (slice_get-get_or blocks n (Const 0) within)))
 
 -- all are wired
-wired-all : (code : Listing) (blocks : List Op) → ((j : ℕ) (op : Op) → slice_get blocks j ≡ Some op → IsWired code (take j blocks) op) → Wired code blocks
-wired-all code blocks each =
-    subst (Wired code) (take_all (length blocks) blocks (omega arith)) (wired-front code blocks each (length blocks) (omega arith))
+wired-all : (shape : Shape) (blocks : List Op) → ((j : ℕ) (op : Op) → slice_get blocks j ≡ Some op → IsWired shape (take j blocks) op) → Wired shape blocks
+wired-all shape blocks each =
+    subst (Wired shape) (take_all (length blocks) blocks (omega arith)) (wired-front shape blocks each (length blocks) (omega arith))
 
 -- other operands make no other kind of value
 public-same : (shared : ℕ → Operand → Operand) (public : Operand → Operand) (op : Op) → is_public (with_operands shared public op) ≡ is_public op
@@ -94,13 +94,6 @@ public-same shared public (Map k arg) = refl
 public-same shared public (Mul left right) = refl
 public-same shared public (Refresh arg) = refl
 
--- the one of some operands for which something holds of each
-each-at : (P : Operand → Type 0) (vs : List Operand) (k : ℕ) (v : Operand) → Each P vs → slice_get vs k ≡ Some v → P v
-unfolding Each
-each-at P [] k v each there = absurd (cc)
-each-at P (w ∷ vs) zero v each there = let same : w ≡ v = cc in subst P same each.0
-each-at P (w ∷ vs) (suc k) v each there = each-at P vs k v each.1 there
-
 -- an element that there is
 operand-there : (vs : List Operand) (k : ℕ) → IsSome (slice_get vs k) → slice_get vs k ≡ Some (slice_index_or vs k (Secret 0))
 operand-there [] k some = absurd (cc)
@@ -111,7 +104,7 @@ operand-there (v ∷ vs) (suc k) some = operand-there vs k some
 abbrev pub AreAtUses : Marks → List Op → Type 0
 AreAtUses marks values = (i k : ℕ) (op : Op) → slice_get values i ≡ Some op → marks i k ≡ true → IsSome (slice_get (shared_operands op) k)
 
-module _ (marks : Marks) (code : Listing) (values : List Op) where
+module _ (marks : Marks) (shape : Shape) (values : List Op) where
   -- the blocks of the values
   abbrev blocks : List Op
   blocks = blocks_from marks 0 values
@@ -128,38 +121,38 @@ module _ (marks : Marks) (code : Listing) (values : List Op) where
       (public-same (refreshed marks k) (renamed marks) at.0 ∙ at.2)
 
   -- a shared operand by its new number
-  shared-kept : (i m : ℕ) (v : Operand) → blocks_before marks i ≤ m → IsSharedThere code (take i values) v → IsSharedThere code (take m blocks) (renamed marks v)
+  shared-kept : (i m : ℕ) (v : Operand) → blocks_before marks i ≤ m → IsSharedThere shape (take i values) v → IsSharedThere shape (take m blocks) (renamed marks v)
   shared-kept i m (Secret k) behind there = there
   shared-kept i m (Public k) behind there = absurd there
   shared-kept i m (Block k) behind there = block-kept i k m false behind there
 
   -- a public one
-  public-kept : (i m : ℕ) (v : Operand) → blocks_before marks i ≤ m → IsPublicThere code (take i values) v → IsPublicThere code (take m blocks) (renamed marks v)
+  public-kept : (i m : ℕ) (v : Operand) → blocks_before marks i ≤ m → IsPublicThere shape (take i values) v → IsPublicThere shape (take m blocks) (renamed marks v)
   public-kept i m (Secret k) behind there = absurd there
   public-kept i m (Public k) behind there = there
   public-kept i m (Block k) behind there = block-kept i k m true behind there
 
   module _ (i : ℕ) (op : Op) (there : slice_get values i ≡ Some op) where
     -- what stands for a shared operand
-    fresh-kept : (k : ℕ) (v : Operand) → k < 2 → IsSharedThere code (take i values) v → IsSharedThere code (take (own_block marks i) blocks) (refreshed marks i k v)
+    fresh-kept : (k : ℕ) (v : Operand) → k < 2 → IsSharedThere shape (take i values) v → IsSharedThere shape (take (own_block marks i) blocks) (refreshed marks i k v)
     fresh-kept k v few held = elim (cases_Bool (marks i k)) [
       | inl on ↦
           let x : Op = Refresh (renamed marks (slice_index_or (shared_operands op) k (Secret 0))) in
-          subst (IsSharedThere code (take (own_block marks i) blocks)) (sym (cond-true (marks i k) (Block (refresh_block marks i k)) (renamed marks v) on))
+          subst (IsSharedThere shape (take (own_block marks i) blocks)) (sym (cond-true (marks i k) (Block (refresh_block marks i k)) (renamed marks v) on))
           (IsSomeAnd-from (slice_get (take (own_block marks i) blocks) (refresh_block marks i k)) (λ y. is_public y ≡ false) x
           (slice_get-take blocks (own_block marks i) (refresh_block marks i k) (refresh-within marks i k few on).1 ∙ refresh-there marks values i k op there few on) refl)
       | inr off ↦
-          subst (IsSharedThere code (take (own_block marks i) blocks)) (sym (cond-false (marks i k) (Block (refresh_block marks i k)) (renamed marks v) off))
+          subst (IsSharedThere shape (take (own_block marks i) blocks)) (sym (cond-false (marks i k) (Block (refresh_block marks i k)) (renamed marks v) off))
           (shared-kept i (own_block marks i) v (omega arith) held)
     ]
 
     -- a public operand of the own block
-    public-own : (v : Operand) → IsPublicThere code (take i values) v → IsPublicThere code (take (own_block marks i) blocks) (renamed marks v)
+    public-own : (v : Operand) → IsPublicThere shape (take i values) v → IsPublicThere shape (take (own_block marks i) blocks) (renamed marks v)
     public-own v held = public-kept i (own_block marks i) v (omega arith) held
 
   -- the own block of a value is wired
-  own-wired : (i : ℕ) (op : Op) → slice_get values i ≡ Some op → IsWired code (take i values) op
-      → IsWired code (take (own_block marks i) blocks) (with_operands (refreshed marks i) (renamed marks) op)
+  own-wired : (i : ℕ) (op : Op) → slice_get values i ≡ Some op → IsWired shape (take i values) op
+      → IsWired shape (take (own_block marks i) blocks) (with_operands (refreshed marks i) (renamed marks) op)
   own-wired i (Const value) there wired = wired
   own-wired i (PubAdd left right) there wired = (public-own i (PubAdd left right) there left wired.0, public-own i (PubAdd left right) there right wired.1)
   own-wired i (PubMul left right) there wired = (public-own i (PubMul left right) there left wired.0, public-own i (PubMul left right) there right wired.1)
@@ -179,17 +172,17 @@ module _ (marks : Marks) (code : Listing) (values : List Op) where
   own-wired i (Refresh arg) there wired = fresh-kept i (Refresh arg) there 0 arg (omega arith) wired
 
   -- the refresh for an operand that there is is wired
-  refresh-wired : (i k : ℕ) (op : Op) → k < 2 → marks i k ≡ true → IsSome (slice_get (shared_operands op) k) → IsWired code (take i values) op
-      → IsWired code (take (refresh_block marks i k) blocks) (Refresh (renamed marks (slice_index_or (shared_operands op) k (Secret 0))))
+  refresh-wired : (i k : ℕ) (op : Op) → k < 2 → marks i k ≡ true → IsSome (slice_get (shared_operands op) k) → IsWired shape (take i values) op
+      → IsWired shape (take (refresh_block marks i k) blocks) (Refresh (renamed marks (slice_index_or (shared_operands op) k (Secret 0))))
   refresh-wired i k op few on some wired =
       let v : Operand = slice_index_or (shared_operands op) k (Secret 0) in
       let at : slice_get (shared_operands op) k ≡ Some v = operand-there (shared_operands op) k some in
       shared-kept i (refresh_block marks i k) v (refresh-within marks i k few on).0
-      (each-at (IsSharedThere code (take i values)) (shared_operands op) k v (wired-operands code (take i values) op wired).0 at)
+      (each-at (IsSharedThere shape (take i values)) (shared_operands op) k v (wired-operands shape (take i values) op wired).0 at)
 
   -- each block is wired
-  pub each-wired : AreAtUses marks values → ((i : ℕ) (op : Op) → slice_get values i ≡ Some op → IsWired code (take i values) op)
-      → (j : ℕ) (x : Op) → slice_get blocks j ≡ Some x → IsWired code (take j blocks) x
+  pub each-wired : AreAtUses marks values → ((i : ℕ) (op : Op) → slice_get values i ≡ Some op → IsWired shape (take i values) op)
+      → (j : ℕ) (x : Op) → slice_get blocks j ≡ Some x → IsWired shape (take j blocks) x
   each-wired used wired j x there = elim (each-block marks values j (slice_get_within blocks j x there)) [
     | inl own ↦
         let i : ℕ = own.0 in
@@ -198,8 +191,8 @@ module _ (marks : Marks) (code : Listing) (values : List Op) where
         let y : Op = with_operands (refreshed marks i) (renamed marks) op in
         let same : Some y ≡ Some x = sym (own-there marks values i op at) ∙ ap (slice_get blocks) (sym own.2) ∙ there in
         let is : y ≡ x = cc in
-        subst (IsWired code (take j blocks)) is
-        (subst (λ (n : ℕ). IsWired code (take n blocks) y) (sym own.2) (own-wired i op at (wired i op at)))
+        subst (IsWired shape (take j blocks)) is
+        (subst (λ (n : ℕ). IsWired shape (take n blocks) y) (sym own.2) (own-wired i op at (wired i op at)))
     | inr fresh ↦
         let i : ℕ = fresh.0 in
         let k : ℕ = fresh.1 in
@@ -208,13 +201,13 @@ module _ (marks : Marks) (code : Listing) (values : List Op) where
         let y : Op = Refresh (renamed marks (slice_index_or (shared_operands op) k (Secret 0))) in
         let same : Some y ≡ Some x = sym (refresh-there marks values i k op at fresh.3 fresh.4) ∙ ap (slice_get blocks) (sym fresh.5) ∙ there in
         let is : y ≡ x = cc in
-        subst (IsWired code (take j blocks)) is
-        (subst (λ (n : ℕ). IsWired code (take n blocks) y) (sym fresh.5)
+        subst (IsWired shape (take j blocks)) is
+        (subst (λ (n : ℕ). IsWired shape (take n blocks) y) (sym fresh.5)
         (refresh-wired i k op fresh.3 fresh.4 (used i k op at fresh.4) (wired i op at)))
   ]
 
 -- an output is there in the one sense and in the other
-out-there : (s : Values) (v : Operand) → ssa.IsSharedThere (draft s) v → IsSharedThere (plain s) s.values v
+pub out-there : (s : Values) (v : Operand) → ssa.IsSharedThere (draft s) v → IsSharedThere (plain s) s.values v
 out-there s (Secret k) there = there
 out-there s (Public k) there = absurd there
 out-there s (Block k) there = there
@@ -234,12 +227,13 @@ module _ (marks : Marks) (s : Values) (is : IsValues s) where
       (shared-kept marks (plain s) s.values n m v (omega (arith, blocks-length marks s.values))
       (subst (λ (vs : List Op). IsSharedThere (plain s) vs v) (sym (take_all n s.values (omega arith))) (out-there s v there)))
 
+  -- each claim is there
   pub laid-claims : All (IsSharedThere (plain s) (laid_out marks s).blocks) (laid_out marks s).claims
   laid-claims =
       All-map (IsSharedThere (plain s) (laid_out marks s).blocks) (renamed marks) s.outs (λ k d below. claim-there (get_or s.outs k d) (is.outs k d below))
 
 -- a mark counts at most once
-one-few : (b : Bool) → one b ≤ 1
+pub one-few : (b : Bool) → one b ≤ 1
 one-few true = omega arith
 one-few false = omega arith
 

@@ -34,6 +34,7 @@ agrees-from s front (u ∷ us) split = (
   agrees-from s (front ++ u ∷ []) us (split ∙ sym (append_assoc front (u ∷ []) us)),
 )
 
+-- the marks of the pass agree with the needs
 pub all-agree : (s : Values) → Agrees (inputs s) (all_marks s) (uses s)
 all-agree s = agrees-from s [] (uses s) refl
 
@@ -144,6 +145,7 @@ module _ (s : Values) (is : IsValues s) where
 pub is-placed : (s : Values) → IsValues s → (cert : Claimed) → cert ≡ laid_out (all_marks s) s → Placed s cert
 is-placed s is cert same = subst (Placed s) (sym same) (laid-placed s is)
 
+-- so it is for the certificate itself
 pub is-undoubled : (s : Values) → IsValues s → (cert : Claimed) → cert ≡ laid_out (all_marks s) s
     → Undoubled (s.secrets + s.publics) (links (plain s) cert.blocks)
 is-undoubled s is cert same =

@@ -13,7 +13,7 @@ use Rattle.mk_rules.specs.Tiles.{value_number}
 use Rattle.mk_rules.specs.Wired.{IsSharedThere}
 use Rattle.mk_rules.specs.Reaches.{Link, IsPath, Reaches, links}
 use Rattle.mk_rules.proofs.Doubled.{link_of, links-at, links-from}
-use Rattle.mk_rules.proofs.Operators.{wired-operands, Each}
+use Rattle.mk_rules.proofs.Operators.{wired-operands}
 use Rattle.mk_rules.proofs.Views.{Contains-at}
 use Rattle.mk_place.specs.Uses.{Use, plain, uses}
 use Rattle.mk_place.specs.Layout.{Marks, own_block, refresh_block, renamed, refreshed, with_operands, blocks_from}
@@ -21,7 +21,7 @@ use Rattle.mk_place.specs.Placed.{Brings}
 use Rattle.mk_place.specs.Marking.{shared_numbers, inputs}
 use Rattle.mk_place.specs.Different.{IsRefresh}
 use Rattle.mk_place.proofs.Taking.{use_of}
-use Rattle.mk_place.proofs.Wiring.{wired-value, operands-short}
+use Rattle.mk_place.proofs.Wiring.{wired-value, operands-short, each-at}
 use Rattle.mk_place.proofs.Using.{IsUse, use-is, use-at}
 use Rattle.mk_place.proofs.Blocks.{own-there, each-block, own-once, own-no-refresh}
 use Rattle.mk_place.proofs.Differing.{places, shared-laid, refresh-or-own}
@@ -38,13 +38,6 @@ pub image-from : {X Y : Type 0} (f : X → Y) (xs : List X) (k : ℕ) (y : Y) �
 image-from f [] k y there = absurd (cc)
 image-from f (x ∷ xs) zero y there = (x, refl, same_Some (f x) y there)
 image-from f (x ∷ xs) (suc k) y there = image-from f xs k y there
-
--- what holds of each operand holds of the one at a place
-pub each-at : (P : Operand → Type 0) (vs : List Operand) (k : ℕ) (v : Operand) → Each P vs → slice_get vs k ≡ Some v → P v
-unfolding Each
-each-at P [] k v each there = absurd (cc)
-each-at P (x ∷ vs) zero v each there = subst P (same_Some x v there) each.0
-each-at P (x ∷ vs) (suc k) v each there = each-at P vs k v each.1 there
 
 -- other operands leave the kind
 with-kind : (f : ℕ → Operand → Operand) (g : Operand → Operand) (op : Op) → kind (with_operands f g op) ≡ kind op
@@ -118,6 +111,7 @@ module _ (s : Values) (marks : Marks) where
     pub is : v ≡ inputs s + value
     pub number : moved s marks v ≡ inputs s + own_block marks value
 
+  -- a number is that of an input or of a value
   behind : (v : ℕ) → (v < inputs s) ⊎ IsBehind v
   behind v = elim (cases_lt v (inputs s)) [
     | inl below ↦ inl below
@@ -309,6 +303,7 @@ module _ (s : Values) (marks : Marks) where
     hop-path v q k w [] leads strong = subst (λ (x : ℕ). Hop x q k) (sym leads) (hop-last q k w strong)
     hop-path v q k w (b ∷ path) leads strong = hop-first v q k b w path leads.0 leads.1 strong
 
+    -- what reaches a place of a product gets there by a hop
     pub hop-from : (v q k : ℕ) → Reaches (inputs s) (links_of s marks) v (own_block marks q) k → Hop v q k
     hop-from v q k reaches = hop-path v q k reaches.operand reaches.path reaches.leads reaches.strong
 
@@ -357,6 +352,7 @@ module _ (s : Values) (marks : Marks) where
       pub kept : marks hop.value hop.place ≡ false
       pub brings : Brings (inputs s) (links_of s marks) marks hop q k
 
+    -- a value that reaches a place of a product does so by one of its uses
     pub step-from : (v q k : ℕ) → Reaches (inputs s) (links_of s marks) (moved s marks v) (own_block marks q) k → Step v q k
     step-from v q k reaches =
         let found : Hop (moved s marks v) q k = hop-from (moved s marks v) q k reaches in

@@ -1,11 +1,11 @@
 mod Joining
-mod Ascending
-mod Merged
-mod Keeping
+mod Products
+mod Standing
+mod Bringing
 mod Flow
 mod Taking
 pub mod Wiring
-mod Stepping
+mod Noting
 mod Worked
 mod Naming
 mod Placing
@@ -16,6 +16,8 @@ mod Fitted
 pub mod Using
 mod Hops
 mod Reaching
+mod Gathering
+mod Marked
 mod Holding
 mod Alike
 mod TakingOut

@@ -45,22 +45,22 @@ module _ (marks : Marks) (i : ℕ) (names : List ℕ) (each : (k : ℕ) → k < 
       → with_operands (pick (argument names l_0 (slice_get (shared_operands op) 0) m_0) (argument names l_1 (slice_get (shared_operands op) 1) m_1)) (named names) op
       ≡ with_operands (refreshed marks i) (renamed marks) op
   own-is (Const value) l_0 l_1 m_0 m_1 is_0 is_1 at_0 at_1 has = refl
-  own-is (PubAdd left right) l_0 l_1 m_0 m_1 is_0 is_1 at_0 at_1 has = ap₂ (λ a b. PubAdd a b) (named-is left has.0) (named-is right has.1)
-  own-is (PubMul left right) l_0 l_1 m_0 m_1 is_0 is_1 at_0 at_1 has = ap₂ (λ a b. PubMul a b) (named-is left has.0) (named-is right has.1)
-  own-is (PubSq arg) l_0 l_1 m_0 m_1 is_0 is_1 at_0 at_1 has = ap (λ a. PubSq a) (named-is arg has)
-  own-is (PubMap k arg) l_0 l_1 m_0 m_1 is_0 is_1 at_0 at_1 has = ap (λ a. PubMap k a) (named-is arg has)
-  own-is (Lift arg) l_0 l_1 m_0 m_1 is_0 is_1 at_0 at_1 has = ap (λ a. Lift a) (named-is arg has)
+  own-is (PubAdd left right) l_0 l_1 m_0 m_1 is_0 is_1 at_0 at_1 has = ap₂ (λ a b. PubAdd a b) (named-is left has.0) (named-is right has.1.0)
+  own-is (PubMul left right) l_0 l_1 m_0 m_1 is_0 is_1 at_0 at_1 has = ap₂ (λ a b. PubMul a b) (named-is left has.0) (named-is right has.1.0)
+  own-is (PubSq arg) l_0 l_1 m_0 m_1 is_0 is_1 at_0 at_1 has = ap (λ a. PubSq a) (named-is arg has.0)
+  own-is (PubMap k arg) l_0 l_1 m_0 m_1 is_0 is_1 at_0 at_1 has = ap (λ a. PubMap k a) (named-is arg has.0)
+  own-is (Lift arg) l_0 l_1 m_0 m_1 is_0 is_1 at_0 at_1 has = ap (λ a. Lift a) (named-is arg has.0)
   own-is (Add left right) l_0 l_1 m_0 m_1 is_0 is_1 at_0 at_1 has =
-      ap₂ (λ a b. Add a b) (argument-is l_0 0 m_0 left is_0 at_0 has.0) (argument-is l_1 1 m_1 right is_1 at_1 has.1)
+      ap₂ (λ a b. Add a b) (argument-is l_0 0 m_0 left is_0 at_0 has.0) (argument-is l_1 1 m_1 right is_1 at_1 has.1.0)
   own-is (AddPub left right) l_0 l_1 m_0 m_1 is_0 is_1 at_0 at_1 has =
-      ap₂ (λ a b. AddPub a b) (argument-is l_0 0 m_0 left is_0 at_0 has.0) (named-is right has.1)
+      ap₂ (λ a b. AddPub a b) (argument-is l_0 0 m_0 left is_0 at_0 has.0) (named-is right has.1.0)
   own-is (Scale left right) l_0 l_1 m_0 m_1 is_0 is_1 at_0 at_1 has =
-      ap₂ (λ a b. Scale a b) (argument-is l_0 0 m_0 left is_0 at_0 has.0) (named-is right has.1)
-  own-is (Sq arg) l_0 l_1 m_0 m_1 is_0 is_1 at_0 at_1 has = ap (λ a. Sq a) (argument-is l_0 0 m_0 arg is_0 at_0 has)
-  own-is (Map k arg) l_0 l_1 m_0 m_1 is_0 is_1 at_0 at_1 has = ap (λ a. Map k a) (argument-is l_0 0 m_0 arg is_0 at_0 has)
+      ap₂ (λ a b. Scale a b) (argument-is l_0 0 m_0 left is_0 at_0 has.0) (named-is right has.1.0)
+  own-is (Sq arg) l_0 l_1 m_0 m_1 is_0 is_1 at_0 at_1 has = ap (λ a. Sq a) (argument-is l_0 0 m_0 arg is_0 at_0 has.0)
+  own-is (Map k arg) l_0 l_1 m_0 m_1 is_0 is_1 at_0 at_1 has = ap (λ a. Map k a) (argument-is l_0 0 m_0 arg is_0 at_0 has.0)
   own-is (Mul left right) l_0 l_1 m_0 m_1 is_0 is_1 at_0 at_1 has =
-      ap₂ (λ a b. Mul a b) (argument-is l_0 0 m_0 left is_0 at_0 has.0) (argument-is l_1 1 m_1 right is_1 at_1 has.1)
-  own-is (Refresh arg) l_0 l_1 m_0 m_1 is_0 is_1 at_0 at_1 has = ap (λ a. Refresh a) (argument-is l_0 0 m_0 arg is_0 at_0 has)
+      ap₂ (λ a b. Mul a b) (argument-is l_0 0 m_0 left is_0 at_0 has.0) (argument-is l_1 1 m_1 right is_1 at_1 has.1.0)
+  own-is (Refresh arg) l_0 l_1 m_0 m_1 is_0 is_1 at_0 at_1 has = ap (λ a. Refresh a) (argument-is l_0 0 m_0 arg is_0 at_0 has.0)
 
   -- the refresh of an operand: what is marked is there
   refreshes-of : (o : Option Operand) (m : Bool) (w : Operand) → (m ≡ true → IsSome o) → ((v : Operand) → o ≡ Some v → (v ≡ w) × HasName names v)
@@ -109,13 +109,13 @@ shared-named names (PubMul left right) k v has there = absurd (cc)
 shared-named names (PubSq arg) k v has there = absurd (cc)
 shared-named names (PubMap m arg) k v has there = absurd (cc)
 shared-named names (Lift arg) k v has there = absurd (cc)
-shared-named names (Add left right) k v has there = two-of names left right v k has.0 has.1 there
+shared-named names (Add left right) k v has there = two-of names left right v k has.0 has.1.0 there
 shared-named names (AddPub left right) k v has there = one-of names left v k has.0 there
 shared-named names (Scale left right) k v has there = one-of names left v k has.0 there
-shared-named names (Sq arg) k v has there = one-of names arg v k has there
-shared-named names (Map m arg) k v has there = one-of names arg v k has there
-shared-named names (Mul left right) k v has there = two-of names left right v k has.0 has.1 there
-shared-named names (Refresh arg) k v has there = one-of names arg v k has there
+shared-named names (Sq arg) k v has there = one-of names arg v k has.0 there
+shared-named names (Map m arg) k v has there = one-of names arg v k has.0 there
+shared-named names (Mul left right) k v has there = two-of names left right v k has.0 has.1.0 there
+shared-named names (Refresh arg) k v has there = one-of names arg v k has.0 there
 
 -- a front of a list, and one element more
 take-next : {X : Type 0} (xs : List X) (i : ℕ) (x : X) → slice_get xs i ≡ Some x → take (suc i) xs ≡ take i xs ++ x ∷ []

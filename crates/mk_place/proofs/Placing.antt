@@ -19,12 +19,15 @@ use Rattle.mk_place.specs.Uses.{Use, plain, uses_by, uses_from}
 use Rattle.mk_place.specs.Layout.{renamed, laid_out, blocks_before, blocks_from}
 use Rattle.mk_rules.specs.Claimed.{Claimed}
 use Rattle.mk_place.specs.Needs.{marks_by}
-use Rattle.mk_place.specs.Marking.{AreMarks, all_marks, inputs, mark_at, uses_behind, shared_numbers}
+use Rattle.mk_place.specs.Marking.{AreMarks, all_marks, inputs, uses_behind, shared_numbers}
 use Rattle.mk_place.specs.Laying.{named, HasName, HasNames, IsLaid, with_refreshes, own_of}
 use Rattle.mk_place.proofs.Taking.{use_of, marks-past, marks-none, marks-place, uses-next}
-use Rattle.mk_place.proofs.Stepping.{marks_of}
 use Rattle.mk_place.proofs.Naming.{laid-step, named-is}
 use Rattle.mk_place.proofs.Joining.{in-front, in-behind}
+
+-- a value's marks
+abbrev marks_of : Values → ℕ → Fresh
+marks_of s i = record { first = all_marks s i 0; second = all_marks s i 1 }
 
 -- a certificate by its parts
 abbrev pub cert_of : List Op → List Operand → Claimed
@@ -42,8 +45,8 @@ marks-later inputs from (l ∷ ls) (suc d) j k at =
     marks-past inputs from l.kind 0 l.shared (uses_from (suc from) ls) j k (λ e. omega (arith, e, at))
     ∙ marks-later inputs (suc from) ls d j k (omega (arith, at))
 
--- so the marks of the pass are those of all uses
-pub marks-all : (s : Values) (i k : ℕ) → all_marks s i k ≡ mark_at s i k
+-- so those by all uses are those by the uses from the value on
+marks-all : (s : Values) (i k : ℕ) → all_marks s i k ≡ marks_by (inputs s) (uses_behind s i) i k
 marks-all s i k = marks-later (inputs s) 0 (links (plain s) s.values) i i k (omega arith)
 
 -- where there is an element behind the first ones
@@ -91,17 +94,17 @@ public-has d n names (Block k) within long there =
 -- each operand of a value that fits has a name
 fits-has : (d : Draft) (n : ℕ) (names : List ℕ) (op : Op) → n ≤ length d.values → length names ≡ n → Fits (front d n) op → HasNames names op
 fits-has d n names (Const value) w l fits = tt
-fits-has d n names (PubAdd left right) w l fits = (public-has d n names left w l fits.0, public-has d n names right w l fits.1)
-fits-has d n names (PubMul left right) w l fits = (public-has d n names left w l fits.0, public-has d n names right w l fits.1)
-fits-has d n names (PubSq arg) w l fits = public-has d n names arg w l fits
-fits-has d n names (PubMap k arg) w l fits = public-has d n names arg w l fits.1
-fits-has d n names (Lift arg) w l fits = public-has d n names arg w l fits
-fits-has d n names (Add left right) w l fits = (shared-has d n names left w l fits.0, shared-has d n names right w l fits.1)
-fits-has d n names (AddPub left right) w l fits = (shared-has d n names left w l fits.0, public-has d n names right w l fits.1)
-fits-has d n names (Scale left right) w l fits = (shared-has d n names left w l fits.0, public-has d n names right w l fits.1)
-fits-has d n names (Sq arg) w l fits = shared-has d n names arg w l fits
-fits-has d n names (Map k arg) w l fits = shared-has d n names arg w l fits.1
-fits-has d n names (Mul left right) w l fits = (shared-has d n names left w l fits.0, shared-has d n names right w l fits.1)
+fits-has d n names (PubAdd left right) w l fits = (public-has d n names left w l fits.0, (public-has d n names right w l fits.1, tt))
+fits-has d n names (PubMul left right) w l fits = (public-has d n names left w l fits.0, (public-has d n names right w l fits.1, tt))
+fits-has d n names (PubSq arg) w l fits = (public-has d n names arg w l fits, tt)
+fits-has d n names (PubMap k arg) w l fits = (public-has d n names arg w l fits.1, tt)
+fits-has d n names (Lift arg) w l fits = (public-has d n names arg w l fits, tt)
+fits-has d n names (Add left right) w l fits = (shared-has d n names left w l fits.0, (shared-has d n names right w l fits.1, tt))
+fits-has d n names (AddPub left right) w l fits = (shared-has d n names left w l fits.0, (public-has d n names right w l fits.1, tt))
+fits-has d n names (Scale left right) w l fits = (shared-has d n names left w l fits.0, (public-has d n names right w l fits.1, tt))
+fits-has d n names (Sq arg) w l fits = (shared-has d n names arg w l fits, tt)
+fits-has d n names (Map k arg) w l fits = (shared-has d n names arg w l fits.1, tt)
+fits-has d n names (Mul left right) w l fits = (shared-has d n names left w l fits.0, (shared-has d n names right w l fits.1, tt))
 fits-has d n names (Refresh arg) w l fits = absurd fits
 
 -- no block is laid yet
@@ -127,15 +130,15 @@ module _ (s : Values) (is : IsValues s) (i : ℕ) (op : Op) (there : slice_get s
       fits-has (draft s) i names op (omega (arith, within)) laid.long (is.made.fit i op there)
 
   -- the next value is laid
-  pub laid-next : (fresh : List Fresh) (x : Fresh) → AreMarks s 0 fresh → slice_get fresh (length s.values - suc i) ≡ Some x
+  pub laid-next : (fresh : List Fresh) (x : Fresh) → AreMarks s fresh → slice_get fresh i ≡ Some x
       → IsLaid (all_marks s) s.values (suc i) (with_refreshes names blocks op x ++ own_of names blocks op x ∷ [])
       (names ++ length (with_refreshes names blocks op x) ∷ [])
   laid-next fresh x are at =
       let within : i < length s.values = slice_get_within s.values i op there in
-      let same : Some x ≡ Some (marks_of s i) = sym at ∙ are.each i (omega arith) within in
+      let same : Some x ≡ Some (marks_of s i) = sym at ∙ are.each i within in
       let x_is : x ≡ marks_of s i = cc in
       laid-step (all_marks s) s.values i op blocks names x laid there next-named
-      (ap (λ (y : Fresh). y.first) x_is ∙ sym (marks-all s i 0)) (ap (λ (y : Fresh). y.second) x_is ∙ sym (marks-all s i 1)) (λ k on. marked-there s i k op there on)
+      (ap (λ (y : Fresh). y.first) x_is) (ap (λ (y : Fresh). y.second) x_is) (λ k on. marked-there s i k op there on)
 
 -- an output has a name, when all values are laid
 draft-has : (s : Values) (names : List ℕ) (v : Operand) → length names ≡ length s.values → IsSharedThere (draft s) v → HasName names v

@@ -48,7 +48,7 @@ module _ (s : Values) (is : IsValues s) where
       omega (arith, slice_get_within (shared_numbers s found.op) u.place u.operand found.operand, some, none)
 
   -- the value of a use isn't used before it
-  before-unused : (front : List Use) (u : Use) (behind : List Use) (x : Use) → uses s ≡ front ++ u ∷ behind → Contains (front ++ u ∷ []) x
+  pub before-unused : (front : List Use) (u : Use) (behind : List Use) (x : Use) → uses s ≡ front ++ u ∷ behind → Contains (front ++ u ∷ []) x
       → x.operand ≡ inputs s + u.value → ⊥
   before-unused front u behind x split held at =
       let whole : (front ++ u ∷ []) ++ behind ≡ uses s = append_assoc front (u ∷ []) behind ∙ sym split in

@@ -78,6 +78,7 @@ module _ (marks : Marks) (s : Values) (is : IsValues s) (used : (i k : ℕ) → 
     pub on : marks value place ≡ true
     pub at : r ≡ refresh_block marks value place
 
+  -- each refresh serves a marked use
   refresh-for : (r : ℕ) (x : Op) → slice_get blocks r ≡ Some x → IsRefresh x → IsFor r
   refresh-for r x there fresh = elim (each-block marks s.values r (slice_get_within blocks r x there)) [
     | inl at ↦
@@ -108,6 +109,7 @@ module _ (marks : Marks) (s : Values) (is : IsValues s) (used : (i k : ℕ) → 
       | inr off ↦ absurd (unnamed v (sym (fresh-off marks j l v off) ∙ same))
     ]
 
+    -- of the values' own blocks only that of the use has the refresh as an operand, and once
     own-alone : (j l : ℕ) (op : Op) → slice_get (operands (own j op)) l ≡ Some (Block (refresh_block marks i k)) → (j ≡ i) × (l ≡ k)
     own-alone j l op at = elim (slice_get-either (shared_operands (own j op)) (public_operands (own j op)) l (Block (refresh_block marks i k)) at) [
       | inl shared ↦

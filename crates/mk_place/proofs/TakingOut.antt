@@ -25,11 +25,10 @@ use Rattle.mk_place.specs.Uses.{plain}
 use Rattle.mk_place.specs.Layout.{Marks, blocks_before, own_block, refresh_block, renamed, refreshed, with_operands, refresh_at, blocks_of, blocks_from, laid_out}
 use Rattle.mk_place.specs.TakenOut.{is_no_refresh, new_number, refreshed_or, unrefreshed, renumbered, new_operand, without_refreshes}
 use Rattle.mk_place.specs.Placed.{Placed}
-use Rattle.mk_place.proofs.Wiring.{wired-value}
+use Rattle.mk_place.proofs.Wiring.{wired-value, each-at}
 use Rattle.mk_place.proofs.Placing.{cert_of}
 use Rattle.mk_place.proofs.Blocks.{before-next, before-later, of-long, refreshes-long, refresh-is, own-there, refresh-there}
 use Rattle.mk_place.proofs.Differing.{places, operator-laid, shared-laid, public-laid, fresh-on, fresh-off}
-use Rattle.mk_place.proofs.Hops.{each-at}
 
 -- none of these is a refresh
 abbrev pub AreNoRefreshes : List Op → Type 0
@@ -58,6 +57,7 @@ or-plain _ v is = refl
 abbrev count : List Op → ℕ
 count ops = count_by is_no_refresh ops
 
+-- counts of two lists add up
 count-append : (xs ys : List Op) → count (xs ++ ys) ≡ count xs + count ys
 count-append xs ys = sum_by-append (λ (op : Op). cond (is_no_refresh op) 1 0) xs ys
 
@@ -79,12 +79,14 @@ module _ (marks : Marks) where
         ap (filter is_no_refresh) (cond-false (marks i k) (Refresh (renamed marks (slice_index_or (shared_operands op) k (Secret 0))) ∷ []) [] off)
   ]
 
+  -- a refresh isn't counted
   count-fresh : (i k : ℕ) (op : Op) → count (refresh_at marks i k op) ≡ 0
   count-fresh i k op = elim (cases_Bool (marks i k)) [
     | inl on ↦ ap count (refresh-is marks i k op on)
     | inr off ↦ ap count (cond-false (marks i k) (Refresh (renamed marks (slice_index_or (shared_operands op) k (Secret 0))) ∷ []) [] off)
   ]
 
+  -- nor are both
   count-refreshes : (i : ℕ) (op : Op) → count (refresh_at marks i 0 op ++ refresh_at marks i 1 op) ≡ 0
   count-refreshes i op =
       omega (arith, count-append (refresh_at marks i 0 op) (refresh_at marks i 1 op), count-fresh i 0 op, count-fresh i 1 op)
@@ -96,6 +98,7 @@ module _ (marks : Marks) where
       let own : Op = with_operands (refreshed marks i) (renamed marks) op in
       cond-true (is_no_refresh own) (own ∷ []) [] (own-plain (refreshed marks i) (renamed marks) op ∙ plain)
 
+  -- the value's own block is counted
   count-own : (i : ℕ) (op : Op) → is_no_refresh op ≡ true → count (with_operands (refreshed marks i) (renamed marks) op ∷ []) ≡ 1
   count-own i op plain =
       let own : Op = with_operands (refreshed marks i) (renamed marks) op in
@@ -111,6 +114,7 @@ module _ (marks : Marks) where
       ∙ ap₂ (λ (xs ys : List Op). xs ++ ys) (filter-fresh i 0 op) (filter-fresh i 1 op))
       ∙ filter-own i op plain
 
+  -- so each value counts once
   count-of : (i : ℕ) (op : Op) → is_no_refresh op ≡ true → count (blocks_of marks i op) ≡ 1
   count-of i op plain =
       omega (
@@ -242,6 +246,7 @@ module _ (marks : Marks) (s : Values) (is : IsValues s) where
         shared-below s i v (each-at (IsSharedThere (plain s) (take i s.values)) (shared_operands op) k v
         (wired-operands (plain s) (take i s.values) op (wired-value s is i op there)).0 at)
 
+    -- a public operand is of a value that is there
     public-at : (k : ℕ) (v : Operand) → slice_get (public_operands op) k ≡ Some v → IsBelow (length s.values) v
     public-at k v at =
         public-below s i v (each-at (IsPublicThere (plain s) (take i s.values)) (public_operands op) k v

@@ -1,8 +1,8 @@
 -- The values are wired as blocks.
-use Rattle.std.proofs.Common.{◌≡◌, ℕ, zero, suc, ◌+◌, ◌<◌, ◌≤◌, List, [], ◌∷◌, length, take, map, slice_get, Some, arith}
-use Rattle.std.proofs.lemmas.Option.{slice_get_within}
+use Rattle.std.proofs.Common.{◌≡◌, ℕ, zero, suc, ◌+◌, ◌<◌, ◌≤◌, List, [], ◌∷◌, length, take, map, slice_get, Some, arith, subst}
+use Rattle.std.proofs.lemmas.Option.{slice_get_within, same_Some}
 use Rattle.std.proofs.lemmas.List.{length-take-le}
-use Rattle.mk_code.specs.Listing.{Listing}
+use Rattle.std.specs.List.{AllByRecursion}
 use Rattle.mk_ssa.specs.declared.Op.{Op}
 use Rattle.mk_ssa.specs.declared.Op.TheVariants.{Const, PubAdd, PubMul, PubSq, PubMap, Lift, Add, AddPub, Scale, Sq, Map, Mul, Refresh}
 use Rattle.mk_ssa.specs.declared.Operand.{Operand}
@@ -10,13 +10,20 @@ use Rattle.mk_ssa.specs.declared.Operand.TheVariants.{Secret, Public, Block}
 use Rattle.mk_ssa.specs.Kinds.{shared_operands}
 use Rattle.mk_ssa.specs.Values as ssa
 use Rattle.mk_ssa.specs.Values.{Values, Draft, draft, front, IsValues, IsDraft}
+use Rattle.mk_rules.specs.Shape.{Shape}
 use Rattle.mk_rules.specs.Tiles.{value_number}
 use Rattle.mk_rules.specs.Wired.{IsSharedThere, IsPublicThere, IsWired}
-use Rattle.mk_rules.proofs.Operators.{wired-operands, Each}
+use Rattle.mk_rules.proofs.Operators.{wired-operands}
 use Rattle.mk_rules.proofs.Doubled.{number-there}
 use Rattle.mk_place.specs.Uses.{plain}
 use Rattle.mk_place.specs.Marking.{shared_numbers, inputs}
 use Rattle.mk_place.proofs.Taking.{AreOperands}
+
+-- what holds of each operand holds of the one at a place
+pub each-at : (P : Operand → Type 0) (vs : List Operand) (k : ℕ) (v : Operand) → AllByRecursion P vs → slice_get vs k ≡ Some v → P v
+each-at P [] k v each there = absurd (cc)
+each-at P (x ∷ vs) zero v each there = subst P (same_Some x v there) each.0
+each-at P (x ∷ vs) (suc k) v each there = each-at P vs k v each.1 there
 
 -- a shared operand is there in the one sense and in the other
 shared-there : (s : Values) (n : ℕ) (v : Operand) → ssa.IsSharedThere (front (draft s) n) v → IsSharedThere (plain s) (take n s.values) v
@@ -47,30 +54,29 @@ fits-wired s n (Mul left right) fits = (shared-there s n left fits.0, shared-the
 fits-wired s n (Refresh arg) fits = absurd fits
 
 -- at most two operands are shared
-pub operands-short : (code : Listing) (op : Op) → length (map (value_number code) (shared_operands op)) ≤ 2
-operands-short code (Const value) = omega arith
-operands-short code (PubAdd left right) = omega arith
-operands-short code (PubMul left right) = omega arith
-operands-short code (PubSq arg) = omega arith
-operands-short code (PubMap k arg) = omega arith
-operands-short code (Lift arg) = omega arith
-operands-short code (Add left right) = omega arith
-operands-short code (AddPub left right) = omega arith
-operands-short code (Scale left right) = omega arith
-operands-short code (Sq arg) = omega arith
-operands-short code (Map k arg) = omega arith
-operands-short code (Mul left right) = omega arith
-operands-short code (Refresh arg) = omega arith
+pub operands-short : (shape : Shape) (op : Op) → length (map (value_number shape) (shared_operands op)) ≤ 2
+operands-short shape (Const value) = omega arith
+operands-short shape (PubAdd left right) = omega arith
+operands-short shape (PubMul left right) = omega arith
+operands-short shape (PubSq arg) = omega arith
+operands-short shape (PubMap k arg) = omega arith
+operands-short shape (Lift arg) = omega arith
+operands-short shape (Add left right) = omega arith
+operands-short shape (AddPub left right) = omega arith
+operands-short shape (Scale left right) = omega arith
+operands-short shape (Sq arg) = omega arith
+operands-short shape (Map k arg) = omega arith
+operands-short shape (Mul left right) = omega arith
+operands-short shape (Refresh arg) = omega arith
 
 -- the number of each of some operands is below a bound
-numbers-below : (code : Listing) (before : List Op) (n : ℕ) (vs : List Operand) (k v : ℕ) → length before ≤ n → Each (IsSharedThere code before) vs
-    → slice_get (map (value_number code) vs) k ≡ Some v → v < code.secrets + code.publics + n
-unfolding Each
-numbers-below code before n [] k v long each there = absurd (cc)
-numbers-below code before n (w ∷ vs) zero v long each there =
-    let same : value_number code w ≡ v = cc in
-    omega (arith, number-there code before w each.0, same, long)
-numbers-below code before n (w ∷ vs) (suc k) v long each there = numbers-below code before n vs k v long each.1 there
+numbers-below : (shape : Shape) (before : List Op) (n : ℕ) (vs : List Operand) (k v : ℕ) → length before ≤ n → AllByRecursion (IsSharedThere shape before) vs
+    → slice_get (map (value_number shape) vs) k ≡ Some v → v < shape.secrets + shape.publics + n
+numbers-below shape before n [] k v long each there = absurd (cc)
+numbers-below shape before n (w ∷ vs) zero v long each there =
+    let same : value_number shape w ≡ v = cc in
+    omega (arith, number-there shape before w each.0, same, long)
+numbers-below shape before n (w ∷ vs) (suc k) v long each there = numbers-below shape before n vs k v long each.1 there
 
 module _ (s : Values) (is : IsValues s) where
   -- each value is wired

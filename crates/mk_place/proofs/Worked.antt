@@ -33,6 +33,7 @@ square-marks = (refl, refl)
 abbrev square_cert : Claimed
 square_cert = record { blocks = Refresh (Secret 0) ∷ Mul (Block 0) (Secret 0) ∷ []; claims = Block 1 ∷ [] }
 
+-- it is laid out so
 pub square-laid : laid_out (marks_by 1 (uses square)) square ≡ square_cert
 unfolding uses_by uses_from needs_by marks_by joined blocks_before blocks_from
 square-laid = refl
@@ -55,6 +56,7 @@ square-unclaimed : (k : ℕ) → k < 1 → slice_index_or (Block 1 ∷ []) k (Bl
 square-unclaimed zero below is = absurd (cc)
 square-unclaimed (suc k) below is = omega (arith, below)
 
+-- its refresh is used once
 pub square-once : IsUsedOnce square_cert 0
 square-once = record {
   user = 1;
@@ -93,6 +95,7 @@ sums_cert = record {
   claims = Block 3 ∷ Block 4 ∷ [];
 }
 
+-- it is laid out so
 pub sums-laid : laid_out (marks_by 2 (uses sums)) sums ≡ sums_cert
 unfolding uses_by uses_from needs_by marks_by joined blocks_before blocks_from
 sums-laid = refl
@@ -109,6 +112,7 @@ sums-stand = (inr (refl, refl, tt, refl), inl refl)
 abbrev swapped : List Op
 swapped = Refresh (Secret 1) ∷ Refresh (Secret 0) ∷ Add (Block 1) (Block 0) ∷ []
 
+-- with the two exchanged the first doesn't stand before its use
 pub swapped-stand : HasOperand swapped 2 1 0 × (StandsBefore swapped 0 2 1 → ⊥)
 swapped-stand = (
   refl,

@@ -1,10 +1,13 @@
--- A certificate in the making: the blocks so far, and the number of the block of each value so far.
+-- A certificate in the making: the blocks so far, and the number of the block of each value so far. What the calls
+-- of the crate promise needs none of it.
 use Rattle.std.specs.Prelude.{◌≡◌, ℕ, ◌<◌, Bool, nat_eq, Option, None, Some, List, [], ◌∷◌, ◌++◌, length, take, slice_get, slice_index, if◌then◌else◌}
+use Rattle.std.specs.List.{AllByRecursion}
 use Rattle.mk_ssa.specs.declared.Operand.{Operand}
 use Rattle.mk_ssa.specs.declared.Operand.TheVariants.{Secret, Public, Block}
 use Rattle.mk_ssa.specs.declared.Op.{Op}
-use Rattle.mk_ssa.specs.declared.Op.TheVariants.{Const, PubAdd, PubMul, PubSq, PubMap, Lift, Add, AddPub, Scale, Sq, Map, Mul, Refresh}
+use Rattle.mk_ssa.specs.declared.Op.TheVariants.{Refresh}
 use Rattle.mk_ssa.specs.Kinds.{shared_operands}
+use Rattle.mk_ssa.specs.Operators.{operands}
 use Rattle.mk_place.specs.declared.marking.Fresh.{Fresh}
 use Rattle.mk_place.specs.Layout.{Marks, blocks_before, own_block, blocks_from, with_operands}
 
@@ -22,19 +25,7 @@ HasName names (Block k) = k < length names
 
 -- there is one for each operand
 abbrev pub HasNames : List ℕ → Op → Type 0
-HasNames names (Const value) = Unit {0}
-HasNames names (PubAdd left right) = HasName names left × HasName names right
-HasNames names (PubMul left right) = HasName names left × HasName names right
-HasNames names (PubSq arg) = HasName names arg
-HasNames names (PubMap map arg) = HasName names arg
-HasNames names (Lift arg) = HasName names arg
-HasNames names (Add left right) = HasName names left × HasName names right
-HasNames names (AddPub left right) = HasName names left × HasName names right
-HasNames names (Scale left right) = HasName names left × HasName names right
-HasNames names (Sq arg) = HasName names arg
-HasNames names (Map map arg) = HasName names arg
-HasNames names (Mul left right) = HasName names left × HasName names right
-HasNames names (Refresh arg) = HasName names arg
+HasNames names op = AllByRecursion (HasName names) (operands op)
 
 -- a shared operand behind `len` blocks: its refresh, if it is to have one
 abbrev pub argument : List ℕ → ℕ → Option Operand → Bool → Operand

@@ -1,4 +1,5 @@
--- Needs: for each value the places of products that it reaches, from the last use to the first.
+-- Needs: for each value the places of products that it reaches, from the last use to the first. They serve the
+-- pass alone, and what the calls of the crate promise needs none of them.
 use Rattle.std.specs.Prelude.{ℕ, ◌+◌, Bool, false, ◌&&◌, not, nat_eq, List, [], ◌∷◌, ◌++◌, if◌then◌else◌}
 use Rattle.std.specs.List.{list_any}
 use Rattle.mk_ssa.specs.Kinds.{Kind, Public, Linear, Strong}

@@ -1,8 +1,8 @@
 -- The uses of shared values. The words are this project's own; docs/MASKING.md has the rule in words.
 use Rattle.std.specs.Prelude.{ℕ, suc, List, [], ◌∷◌, ◌++◌}
-use Rattle.mk_code.specs.Listing.{Listing}
 use Rattle.mk_ssa.specs.Kinds.{Kind}
 use Rattle.mk_ssa.specs.Values.{Values}
+use Rattle.mk_rules.specs.Shape.{Shape}
 use Rattle.mk_rules.specs.Reaches.{Link, links}
 
 -- a use: value `value`, of this kind, has the value with the number `operand` as its shared operand `place`
@@ -22,9 +22,9 @@ unfoldable pub uses_from : ℕ → List Link → List Use
 uses_from value [] = []
 uses_from value (l ∷ ls) = uses_by value l.kind 0 l.shared ++ uses_from (suc value) ls
 
--- a code without instructions, over the field, the inputs and the maps of the values
-abbrev pub plain : Values → Listing
-plain s = record { field = s.field; order = 0; secrets = s.secrets; publics = s.publics; maps = s.maps; instrs = []; outs = [] }
+-- the shape of values, at order 0: none is split, and each is its one share
+abbrev pub plain : Values → Shape
+plain s = record { field = s.field; order = 0; secrets = s.secrets; publics = s.publics; maps = s.maps }
 
 -- the uses of shared values, in order
 abbrev pub uses : Values → List Use

@@ -74,10 +74,10 @@ fn push(cert: &mut Cert, names: &mut Items<u32>, op: Op, fresh: Fresh) -> Result
     names.push(own)
 }
 
-/// The blocks of the values, of which these uses go through refreshes, the last value first; and the
+/// The blocks of the values, of which these uses go through refreshes; and the
 /// numbers of the values' own blocks.
 fn lay_values(alloc: Global, s: &Ssa, fresh: &[Fresh]) -> Result<(Cert, Items<u32>), Memory>
-    requires { AreMarks s.now 0 fresh.now }
+    requires { AreMarks s.now fresh.now }
     ensures laid { IfOk result (λ laid. IsLaid (all_marks s.now) s.now.values (length s.now.values) laid.0.blocks laid.1) }
     ensures claims { IfOk result (λ laid. laid.0.claims ≡ []) }
     ensures fits { IsValues s.now }
@@ -87,7 +87,7 @@ fn lay_values(alloc: Global, s: &Ssa, fresh: &[Fresh]) -> Result<(Cert, Items<u3
     let len = s.values().len();
     for at in 0..len {
         let op = s.values().as_slice()[at];
-        push(&mut cert, &mut names, op, fresh[len - 1 - at])?;
+        push(&mut cert, &mut names, op, fresh[at])?;
     }
     Ok((cert, names))
 }
@@ -104,9 +104,9 @@ fn claim_outs(cert: &mut Cert, names: &[u32], s: &Ssa) -> Result<(), Memory>
     Ok(())
 }
 
-/// The certificate of values, of which these uses go through refreshes, the last value first.
+/// The certificate of values, of which these uses go through refreshes.
 pub(crate) fn laid_out(alloc: Global, s: &Ssa, fresh: &[Fresh]) -> Result<Cert, Memory>
-    requires { AreMarks s.now 0 fresh.now }
+    requires { AreMarks s.now fresh.now }
     ensures laid { IfOk result (λ cert. cert ≡ laid_out_by (all_marks s.now) s.now) }
     ensures fits { IsValues s.now }
 {

@@ -1,14 +1,14 @@
 //! Which uses need a refresh, from the last value to the first.
 
-ghost use Rattle.std.specs.Prelude.{◌≡◌, ◌<◌, ◌+◌, ◌-◌, ℕ, [], ◌∷◌, length, slice_get, slice_index_or, IfOk, OnOk, IfSome};
-ghost use Rattle.mk_ssa.specs.Kinds.{kind};
-ghost use Rattle.mk_place.specs.Needs.{brought_by};
-ghost use Rattle.mk_place.specs.Marking.{AreAscending, AreNeedsAt, IsTaken, inputs, taken_mark, mark_at, AreMarks};
+ghost use Rattle.std.specs.Prelude.{◌≡◌, ◌<◌, ◌+◌, ◌-◌, ℕ, [], length, slice_index_or, IfOk, OnOk, IfSome};
+ghost use Rattle.mk_ssa.specs.Values.{IsValues};
+ghost use Rattle.mk_place.specs.Marking.{AreUsesAt, IsNoted, IsIndex, HasRows, IsNeed, IsAt, IsDue, AreMarkedToo};
+ghost use Rattle.mk_place.specs.Marking.{AreMarks, inputs, final_need};
 
-use crate::need::{Need, Place, clash, join};
+use crate::need::{Place, product_numbers, take};
 use crate::operands::shared_numbers;
 use mk_base::{Items, Memory};
-use mk_ssa::{Op, Ssa};
+use mk_ssa::Ssa;
 use std::alloc::Global;
 
 /// Which operands of a value go through a refresh.
@@ -18,98 +18,166 @@ pub(crate) struct Fresh {
     pub second: bool,
 }
 
-/// The needs of so many values, of which no use is looked at yet.
-fn no_needs(alloc: Global, len: usize) -> Result<Vec<Need>, Memory>
-    ensures count { IfOk result (λ needs. length needs.items ≡ len) }
-    ensures none { IfOk result (λ needs. (v : ℕ) → slice_index_or needs.items v [] ≡ []) }
-{
-    let mut needs = Vec::new(alloc);
-    for _ in 0..len {
-        needs.push(Items::new(alloc))?;
-    }
-    Ok(needs)
+/// The uses of each value by its number, the last use first; how many products stand before each value; and
+/// how many words a row has.
+#[derive(Drop)]
+struct Index {
+    uses: Vec<Items<Place>>,
+    numbers: Vec<u32>,
+    words: usize,
 }
 
-/// Takes a use of the value with this number, which brings these places, and answers whether it needs a
-/// refresh.
-fn take(
-    alloc: Global,
-    needs: &mut Vec<Need>,
-    operand: Option<usize>,
-    brought: &[Place],
-) -> Result<bool, Memory>
-    requires there { IfSome operand (λ v. v < length needs.old.items) }
-    requires need { IfSome operand (λ v. AreAscending (slice_index_or needs.old.items v [])) }
-    requires brought { AreAscending brought.now }
-    ensures mark { IfOk result (λ mark. mark ≡ taken_mark needs.old.items operand brought.now) }
-    ensures needs { OnOk result (IsTaken needs.old.items operand brought.now needs.new.items) }
+/// So many values, of which no use is noted yet.
+fn no_uses(alloc: Global, len: usize) -> Result<Vec<Items<Place>>, Memory>
+    ensures count { IfOk result (λ noted. length noted.items ≡ len) }
+    ensures none { IfOk result (λ noted. (v : ℕ) → slice_index_or noted.items v [] ≡ []) }
+{
+    let mut noted = Vec::new(alloc);
+    for _ in 0..len {
+        noted.push(Items::new(alloc))?;
+    }
+    Ok(noted)
+}
+
+/// Notes a use of the value with this number, if there is one.
+fn note(noted: &mut Vec<Items<Place>>, operand: Option<usize>, place: Place) -> Result<(), Memory>
+    requires { IfSome operand (λ v. v < length noted.old.items) }
+    ensures { OnOk result (IsNoted noted.old.items operand place noted.new.items) }
 {
     match operand {
-        Some(v) => {
-            let clashes = clash(needs[v].as_slice(), brought);
-            if !clashes {
-                let both = join(alloc, needs[v].as_slice(), brought)?;
-                needs[v] = both;
-            }
-            Ok(clashes)
-        }
-        None => Ok(false),
+        Some(v) => noted[v].push(place),
+        None => Ok(()),
     }
 }
 
-/// What a use by a value brings: its own place if the value is a product, else the need of the value.
-fn brought<'a>(op: Op, own: &'a [Place], here: &'a [Place]) -> &'a [Place]
-    ensures { result.now ≡ brought_by (kind op) here.now own.now }
-{
-    match op {
-        Op::Mul { .. } | Op::Refresh { .. } => here,
-        _ => own,
-    }
-}
-
-/// Takes the uses by value `at`, those behind it being taken, and answers which need a refresh.
-fn step(alloc: Global, needs: &mut Vec<Need>, s: &Ssa, at: u32) -> Result<Fresh, Memory>
-    requires there { at < length s.now.values }
-    requires needs { AreNeedsAt s.now (at + 1) needs.old.items }
-    ensures needs { OnOk result (AreNeedsAt s.now at needs.new.items) }
-    ensures first { IfOk result (λ fresh. fresh.first ≡ mark_at s.now at 0) }
-    ensures second { IfOk result (λ fresh. fresh.second ≡ mark_at s.now at 1) }
-{
-    let own = needs.pop().unwrap();
-    let op = s.values().as_slice()[at as usize];
-    let (left, right) = shared_numbers(s, op);
-    let at_left = [Place {
-        value: at,
-        operand: 0,
-    }];
-    let at_right = [Place {
-        value: at,
-        operand: 1,
-    }];
-    let second = take(
-        alloc,
-        needs,
-        right,
-        brought(op, own.as_slice(), at_right.as_slice()),
-    )?;
-    let first = take(
-        alloc,
-        needs,
-        left,
-        brought(op, own.as_slice(), at_left.as_slice()),
-    )?;
-    Ok(Fresh { first, second })
-}
-
-/// Which operands of each value go through a refresh, the last value first.
-pub(crate) fn marks(alloc: Global, s: &Ssa) -> Result<Vec<Fresh>, Memory>
-    ensures { IfOk result (λ fresh. AreMarks s.now 0 fresh.items) }
+/// The uses of each value, the last use first.
+fn uses_of(alloc: Global, s: &Ssa) -> Result<Vec<Items<Place>>, Memory>
+    ensures { IfOk result (λ noted. AreUsesAt s.now 0 noted.items) }
 {
     let len = s.values().len();
-    let mut needs = no_needs(alloc, s.secrets() as usize + s.publics() as usize + len)?;
-    let mut fresh = Vec::new(alloc);
+    let mut noted = no_uses(alloc, s.secrets() as usize + s.publics() as usize + len)?;
     for done in 0..len {
-        fresh.push(step(alloc, &mut needs, s, (len - 1 - done) as u32)?)?;
+        let at = (len - 1 - done) as u32;
+        let (left, right) = shared_numbers(s, s.values().as_slice()[at as usize]);
+        note(
+            &mut noted,
+            right,
+            Place {
+                value: at,
+                operand: 1,
+            },
+        )?;
+        note(
+            &mut noted,
+            left,
+            Place {
+                value: at,
+                operand: 0,
+            },
+        )?;
+    }
+    Ok(noted)
+}
+
+/// What the pass goes by.
+fn make_index(alloc: Global, s: &Ssa) -> Result<Index, Memory>
+    ensures { IfOk result (λ index. IsIndex s.now index.uses.items index.numbers.items index.words) }
+{
+    let uses = uses_of(alloc, s)?;
+    let numbers = product_numbers(alloc, s.values().as_slice())?;
+    let words = (numbers[s.values().len()] as usize + 31) / 32;
+    Ok(Index {
+        uses,
+        numbers,
+        words,
+    })
+}
+
+/// Marks a use.
+fn mark(fresh: &mut [Fresh], place: Place)
+    requires there { place.value < length fresh.old }
+    requires two { place.operand < 2 }
+    ensures count { length fresh.new ≡ length fresh.old }
+    ensures marks { AreMarkedToo fresh.old (IsAt place) fresh.new }
+{
+    let at = place.value as usize;
+    let before = fresh[at];
+    fresh[at] = Fresh {
+        first: before.first || place.operand == 0,
+        second: before.second || place.operand == 1,
+    };
+}
+
+/// The need of the value with this number, as a row; marks the uses of it that need a refresh. The rows are
+/// those of the values behind it, the last one first.
+fn gather(
+    alloc: Global,
+    s: &Ssa,
+    index: &Index,
+    rows: &[Items<u64>],
+    number: usize,
+    fresh: &mut [Fresh],
+) -> Result<Items<u64>, Memory>
+    requires fits { IsValues s.now }
+    requires there { number < inputs s.now + length s.now.values }
+    requires index { IsIndex s.now index.now.uses.items index.now.numbers.items index.now.words }
+    requires rows { HasRows s.now rows.now index.now.words (number + 1 - inputs s.now) }
+    requires fresh { length fresh.old ≡ length s.now.values }
+    ensures count { IfOk result (λ row. length row ≡ index.now.words) }
+    ensures need { IfOk result (λ row. IsNeed s.now.values (final_need s.now number) row) }
+    ensures fresh { OnOk result (length fresh.new ≡ length fresh.old) }
+    ensures marks { OnOk result (AreMarkedToo fresh.old (IsDue s.now number) fresh.new) }
+{
+    let mut row = vec![in alloc; 0; index.words]?;
+    let uses = index.uses[number].as_slice();
+    for at in 0..uses.len() {
+        if take(
+            row.as_mut_slice(),
+            s,
+            index.numbers.as_slice(),
+            rows,
+            uses[at],
+        ) {
+            mark(fresh, uses[at]);
+        }
+    }
+    Ok(Items::from_vec(row))
+}
+
+/// Which operands of each value go through a refresh.
+pub(crate) fn marks(alloc: Global, s: &Ssa) -> Result<Vec<Fresh>, Memory>
+    ensures { IfOk result (λ fresh. AreMarks s.now fresh.items) }
+{
+    let len = s.values().len();
+    let inputs = s.secrets() as usize + s.publics() as usize;
+    let index = make_index(alloc, s)?;
+    let none = Fresh {
+        first: false,
+        second: false,
+    };
+    let mut fresh = vec![in alloc; none; len]?;
+    let mut rows = Vec::new(alloc);
+    for done in 0..len {
+        let number = inputs + (len - 1 - done);
+        let row = gather(
+            alloc,
+            s,
+            &index,
+            rows.as_slice(),
+            number,
+            fresh.as_mut_slice(),
+        )?;
+        rows.push(row)?;
+    }
+    for number in 0..inputs {
+        gather(
+            alloc,
+            s,
+            &index,
+            rows.as_slice(),
+            number,
+            fresh.as_mut_slice(),
+        )?;
     }
     Ok(fresh)
 }

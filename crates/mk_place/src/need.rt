@@ -1,115 +1,106 @@
-//! The need of a value: the places of products that it reaches through no refresh.
+//! The need of a value: the places of products that it reaches through no refresh, as a row of bits.
 
-ghost use Rattle.std.specs.Prelude.{◌≡◌, ◌↔◌, ◌++◌, false, IfOk, IsTrue};
-ghost use Rattle.mk_place.specs.Needs.{clash as clashing, joined};
-ghost use Rattle.mk_place.specs.Marking.{AreAscending, AreBefore, IsNeed};
+ghost use Rattle.std.specs.Prelude.{◌≡◌, ◌+◌, ◌-◌, ◌*◌, ◌<◌, ◌≤◌, ◌^◌, length, IfOk, IsTrue, ◌↔◌};
+ghost use Rattle.mk_ssa.specs.Kinds.{Strong, kind};
+ghost use Rattle.mk_rules.specs.Rows.{HasBit, Clash};
+ghost use Rattle.mk_place.specs.Needs.{clash, added};
+ghost use Rattle.mk_place.specs.Marking.{AreNumbers, IsNeed, OfNeeds, IsTaken, HasRow, brings, products_before};
 
 use mk_base::{Items, Memory};
+use mk_rules::{has_bit, join_rows, rows_clash, set_bit};
+use mk_ssa::{Op, Ssa};
 use std::alloc::Global;
 
-/// A place of a product: its number among the values, and which operand.
+/// A place of a product: its number among the values, and which operand. Any use of a value is told by it, too.
 #[derive(Clone, Copy, Debug, PartialEq, Eq)]
 pub(crate) struct Place {
     pub value: u32,
     pub operand: u8,
 }
 
-/// Places by value, one of each product.
-pub(crate) type Need = Items<Place>;
-
-/// Whether there are two places of one product, one here and one there.
-pub(crate) fn clash(need: &[Place], brought: &[Place]) -> bool
-    requires need { AreAscending need.now }
-    requires brought { AreAscending brought.now }
-    ensures { result ≡ clashing need.now brought.now }
+/// Whether an operator is a product, by what is seen of it: one behind which as few shares are seen as are probed.
+fn is_product(op: Op) -> bool
+    ensures { IsTrue result ↔ (kind op ≡ Strong) }
 {
-    let mut i = 0;
-    let mut j = 0;
-    while i < need.len() && j < brought.len() {
-        if need[i].value < brought[j].value {
-            i += 1;
-        } else if brought[j].value < need[i].value {
-            j += 1;
-        } else if need[i].operand != brought[j].operand {
-            return true;
-        } else {
-            i += 1;
-            j += 1;
+    matches!(op, Op::Mul { .. } | Op::Refresh { .. })
+}
+
+/// How many products stand before each value, and before the end.
+pub(crate) fn product_numbers(alloc: Global, ops: &[Op]) -> Result<Vec<u32>, Memory>
+    requires { length ops.now < 2 ^ 32 }
+    ensures count { IfOk result (λ numbers. length numbers.items ≡ length ops.now + 1) }
+    ensures each { IfOk result (λ numbers. AreNumbers ops.now numbers.items) }
+{
+    let mut numbers = Vec::with_capacity(alloc, ops.len() + 1)?;
+    let mut count = 0;
+    for at in 0..ops.len() {
+        numbers.push(count)?;
+        if is_product(ops[at]) {
+            count += 1;
         }
     }
-    false
+    numbers.push(count)?;
+    Ok(numbers)
 }
 
-/// Whether each place of the left list comes before each of the right one.
-fn are_before(left: &[Place], right: &[Place]) -> bool
-    requires left { AreAscending left.now }
-    requires right { AreAscending right.now }
-    ensures { IsTrue result ↔ AreBefore left.now right.now }
+/// Takes a place to a row, unless the product's other place is there; answers whether it is.
+fn take_place(row: &mut [u64], own: usize, other: usize) -> bool
+    requires own { own < 64 * length row.old }
+    requires other { other < 64 * length row.old }
+    ensures clashes { IsTrue result ↔ HasBit row.old other }
+    ensures count { length row.new ≡ length row.old }
+    ensures bits { IsTaken row.old (HasBit row.old other) (λ k. k ≡ own) row.new }
 {
-    left.is_empty() || right.is_empty() || left[left.len() - 1].value < right[0].value
-}
-
-/// These places as a need. No need has memory for 2^32 places.
-fn as_need(places: Vec<Place>) -> Result<Need, Memory>
-    ensures { IfOk result (λ need. need ≡ places.items) }
-{
-    if places.len() > u32::MAX as usize {
-        return Err(Memory);
+    let clashes = has_bit(row, other);
+    if !clashes {
+        set_bit(row, own);
     }
-    Ok(Items::from_vec(places))
+    clashes
 }
 
-/// The places of the left list and those of the right one behind them.
-fn appended(alloc: Global, left: &[Place], right: &[Place]) -> Result<Need, Memory>
-    ensures { IfOk result (λ both. both ≡ left.now ++ right.now) }
+/// Takes the places of another row to a row, unless they clash; answers whether they do.
+fn take_row(row: &mut [u64], brought: &[u64]) -> bool
+    requires { length row.old ≡ length brought.now }
+    ensures clashes { IsTrue result ↔ Clash row.old brought.now }
+    ensures count { length row.new ≡ length row.old }
+    ensures bits { IsTaken row.old (Clash row.old brought.now) (HasBit brought.now) row.new }
 {
-    let mut both = Vec::with_capacity(alloc, left.len() + right.len())?;
-    both.extend_from_slice(left)?;
-    both.extend_from_slice(right)?;
-    as_need(both)
+    let clashes = rows_clash(row, brought);
+    if !clashes {
+        join_rows(row, brought);
+    }
+    clashes
 }
 
-/// The places of both lists, between which there is no clash, place by place.
-fn merge(alloc: Global, need: &[Place], brought: &[Place]) -> Result<Need, Memory>
-    requires need { AreAscending need.now }
-    requires brought { AreAscending brought.now }
-    requires apart { clashing need.now brought.now ≡ false }
-    ensures { IfOk result (λ both. IsNeed (joined need.now brought.now) both) }
+/// Takes what a use brings to the need of its operand, unless they clash; answers whether they do. The rows
+/// are those of the values behind, the last value first.
+pub(crate) fn take(
+    row: &mut [u64],
+    s: &Ssa,
+    numbers: &[u32],
+    rows: &[Items<u64>],
+    place: Place,
+) -> bool
+    requires there { place.value < length s.now.values }
+    requires two { place.operand < 2 }
+    requires count { length numbers.now ≡ length s.now.values + 1 }
+    requires numbers { AreNumbers s.now.values numbers.now }
+    requires room { 2 * products_before s.now.values (length s.now.values) ≤ 64 * length row.old }
+    requires brought { HasRow s.now rows.now (length row.old) place.value }
+    ensures count { length row.new ≡ length row.old }
+    ensures clashes { OfNeeds s.now.values row.old (λ need. result ≡ clash need (brings s.now place)) }
+    ensures taken { OfNeeds s.now.values row.old (λ n. IsNeed s.now.values (added n (brings s.now place)) row.new) }
 {
-    let mut both = Vec::with_capacity(alloc, need.len() + brought.len())?;
-    let mut i = 0;
-    let mut j = 0;
-    while i < need.len() && j < brought.len() {
-        if need[i].value < brought[j].value {
-            both.push(need[i])?;
-            i += 1;
-        } else if brought[j].value < need[i].value {
-            both.push(brought[j])?;
-            j += 1;
+    let ops = s.values().as_slice();
+    let value = place.value as usize;
+    if is_product(ops[value]) {
+        let first = 2 * numbers[value] as usize;
+        if place.operand == 0 {
+            take_place(row, first, first + 1)
         } else {
-            both.push(need[i])?;
-            i += 1;
-            j += 1;
+            take_place(row, first + 1, first)
         }
-    }
-    both.extend_from_slice(&need[i..])?;
-    both.extend_from_slice(&brought[j..])?;
-    as_need(both)
-}
-
-/// The places of both lists, between which there is no clash. Where the one list comes before the
-/// other, both are copied as they are.
-pub(crate) fn join(alloc: Global, need: &[Place], brought: &[Place]) -> Result<Need, Memory>
-    requires need { AreAscending need.now }
-    requires brought { AreAscending brought.now }
-    requires apart { clashing need.now brought.now ≡ false }
-    ensures { IfOk result (λ both. IsNeed (joined need.now brought.now) both) }
-{
-    if are_before(need, brought) {
-        appended(alloc, need, brought)
-    } else if are_before(brought, need) {
-        appended(alloc, brought, need)
     } else {
-        merge(alloc, need, brought)
+        take_row(row, rows[ops.len() - 1 - value].as_slice())
     }
 }

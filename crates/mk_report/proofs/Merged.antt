@@ -43,6 +43,7 @@ unfolding merged merged_front
 merged-none [] = refl
 merged-none (p ∷ ps) = refl
 
+-- places merged with none are these
 none-merged : (qs : List Place) → merged [] qs ≡ qs
 unfolding merged
 none-merged qs = refl
@@ -197,6 +198,7 @@ module _ (both left right all : List Place) (i j : ℕ) (d e : Place)
       ∙ ap (λ (xs : List Place). both ++ xs) (sym (ap (λ (xs : List Place). merged xs (drop j right)) none ∙ none-merged (drop j right)))
       ∙ so_far
 
+  -- the right list has ended, and the rest of the left one stands behind
   pub rest-right : length right ≤ j → (both ++ drop i left) ++ drop j right ≡ all
   rest-right past =
       let none : drop j right ≡ [] = drop_all j right past in

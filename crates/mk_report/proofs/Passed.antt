@@ -5,18 +5,18 @@ use Rattle.std.specs.List.{Contains}
 use Rattle.std.proofs.lemmas.Bool.{cases_Bool, cases_eq, cases_lt, cond-true, cond-false, eq-eqb, eqb-true}
 use Rattle.std.proofs.lemmas.List.{length-append, length-map, length-set, get_or-set_same, get_or-set_other, get_or_append_left, get_or_push, get_or_past, drop_more}
 use Rattle.std.proofs.lemmas.Option.{same_Some, slice_get_within, slice_get-get_or, get_or_from_slice_get}
-use Rattle.mk_code.specs.Listing.{Listing}
 use Rattle.mk_ssa.specs.declared.Op.{Op}
 use Rattle.mk_ssa.specs.declared.Op.TheVariants.{Const, PubAdd, PubMul, PubSq, PubMap, Lift, Add, AddPub, Scale, Sq, Map, Mul, Refresh}
 use Rattle.mk_ssa.specs.declared.Operand.{Operand}
 use Rattle.mk_ssa.specs.Kinds.{Kind, Linear, Strong, kind, shared_operands}
 use Rattle.mk_ssa.specs.Operators.{Operator, operator}
+use Rattle.mk_ssa.proofs.Lists.{IsSomeAnd-value}
+use Rattle.mk_rules.specs.Shape.{Shape}
 use Rattle.mk_rules.specs.Tiles.{value_number}
 use Rattle.mk_rules.specs.Wired.{Wired}
 use Rattle.mk_rules.specs.Reaches.{Link, links}
 use Rattle.mk_rules.proofs.Blocks.{IsHit, only, passed_on, any_marked-from, any_marked-at}
 use Rattle.mk_rules.proofs.Needs.{carries-from, carries-at}
-use Rattle.mk_rules.proofs.Places.{IsSomeAnd-value}
 use Rattle.mk_rules.proofs.Views.{Contains-at}
 use Rattle.mk_rules.proofs.Leading.{is_among, leads, leads-passed, leads-kept, leads-behind, Reaches-leads, Reaches-from}
 use Rattle.mk_rules.proofs.Doubled.{link_of, links-at, number-there, HasValue, wired-ordered, reaches-there}
@@ -168,17 +168,19 @@ pub two-passed : (op : Op) → length (passed_to op) ≤ 2
 two-passed (Const value) = omega arith
 two-passed _ = omega arith
 
-module _ (code : Listing) (blocks : List Op) where
+module _ (shape : Shape) (blocks : List Op) where
+  -- how many inputs there are
   abbrev inputs : ℕ
-  inputs = code.secrets + code.publics
+  inputs = shape.secrets + shape.publics
 
+  -- the links of the blocks
   abbrev ls : List Link
-  ls = links code blocks
+  ls = links shape blocks
 
   -- this operand stands at a place of a product
   abbrev StandsAt : Place → ℕ → Type 0
   StandsAt p w =
-      IsSomeAnd (slice_get blocks p.block) (λ op. (operator op ≡ Operator.Mul) × (slice_get (map (value_number code) (shared_operands op)) p.operand ≡ Some w))
+      IsSomeAnd (slice_get blocks p.block) (λ op. (operator op ≡ Operator.Mul) × (slice_get (map (value_number shape) (shared_operands op)) p.operand ≡ Some w))
 
   -- the value reaches this place of a product through the blocks from block k on, the product being one of them
   pub record ReachedFrom (k v : ℕ) (p : Place) : Type 0 where
@@ -199,10 +201,10 @@ module _ (code : Listing) (blocks : List Op) where
 
   -- the product of a place
   product-of : (p : Place) (w : ℕ) → StandsAt p w
-      → (op : Op) × (slice_get blocks p.block ≡ Some op) × ((operator op ≡ Operator.Mul) × (slice_get (map (value_number code) (shared_operands op)) p.operand ≡ Some w))
+      → (op : Op) × (slice_get blocks p.block ≡ Some op) × ((operator op ≡ Operator.Mul) × (slice_get (map (value_number shape) (shared_operands op)) p.operand ≡ Some w))
   product-of p w stands =
       IsSomeAnd-value (slice_get blocks p.block)
-      (λ op. (operator op ≡ Operator.Mul) × (slice_get (map (value_number code) (shared_operands op)) p.operand ≡ Some w)) stands
+      (λ op. (operator op ≡ Operator.Mul) × (slice_get (map (value_number shape) (shared_operands op)) p.operand ≡ Some w)) stands
 
   -- behind the last block nothing is reached
   pub reached-none : (k n : ℕ) (table : List (List Place)) → k ≡ length blocks → length table ≡ n → ((v : ℕ) → get_or table v [] ≡ [])
@@ -240,19 +242,20 @@ module _ (code : Listing) (blocks : List Op) where
         (subst AreAscending last (are.ascending n), subst (AreFrom k n) last (are.reached n (omega arith))),
       )
 
-  module _ (wired : Wired code blocks) where
+  module _ (wired : Wired shape blocks) where
     module _ (k : ℕ) (op : Op) (there : slice_get blocks k ≡ Some op) where
       -- the blocks from block k on
-      next : drop k ls ≡ link_of code op ∷ drop (k + 1) ls
+      next : drop k ls ≡ link_of shape op ∷ drop (k + 1) ls
       next =
-          let at : slice_get ls k ≡ Some (link_of code op) = links-at code blocks k op there in
-          drop_more ls k (link_of code op) (slice_get_within ls k (link_of code op) at)
-          ∙ ap (λ (l : Link). l ∷ drop (k + 1) ls) (get_or_from_slice_get ls k (link_of code op) (link_of code op) at)
+          let at : slice_get ls k ≡ Some (link_of shape op) = links-at shape blocks k op there in
+          drop_more ls k (link_of shape op) (slice_get_within ls k (link_of shape op) at)
+          ∙ ap (λ (l : Link). l ∷ drop (k + 1) ls) (get_or_from_slice_get ls k (link_of shape op) (link_of shape op) at)
 
       -- the same of what leads on
-      here-leads : (w v : ℕ) → leads (inputs + k) (drop k ls) w v ≡ leads (inputs + k) (link_of code op ∷ drop (k + 1) ls) w v
+      here-leads : (w v : ℕ) → leads (inputs + k) (drop k ls) w v ≡ leads (inputs + k) (link_of shape op ∷ drop (k + 1) ls) w v
       here-leads w v = ap (λ (xs : List Link). leads (inputs + k) xs w v) next
 
+      -- what leads on from the block behind k does so wherever its number is written as a sum
       later-leads : (w v : ℕ) → leads (inputs + (k + 1)) (drop (k + 1) ls) w v ≡ leads (inputs + k + 1) (drop (k + 1) ls) w v
       later-leads w v = let e : inputs + (k + 1) ≡ inputs + k + 1 = omega arith in ap (λ (a : ℕ). leads a (drop (k + 1) ls) w v) e
 
@@ -261,30 +264,30 @@ module _ (code : Listing) (blocks : List Op) where
       strong-kept hit is = ap (λ (kd : Kind). passed_on kd hit) is
 
       -- an operand of this block comes before it
-      before : (c w : ℕ) → slice_get (map (value_number code) (shared_operands op)) c ≡ Some w → w < inputs + k
+      before : (c w : ℕ) → slice_get (map (value_number shape) (shared_operands op)) c ≡ Some w → w < inputs + k
       before c w at =
-          wired-ordered code blocks wired k w
-          (subst (λ (o : Option Link). IsSomeAnd o (λ link. Contains link.shared w)) (sym (links-at code blocks k op there))
-          (Contains-at (map (value_number code) (shared_operands op)) c w at))
+          wired-ordered shape blocks wired k w
+          (subst (λ (o : Option Link). IsSomeAnd o (λ link. Contains link.shared w)) (sym (links-at shape blocks k op there))
+          (Contains-at (map (value_number shape) (shared_operands op)) c w at))
 
       -- an operand to which a block passes places on comes before it
-      pub passed-before : (c v : ℕ) → slice_get (map (value_number code) (passed_to op)) c ≡ Some v → v < inputs + k
+      pub passed-before : (c v : ℕ) → slice_get (map (value_number shape) (passed_to op)) c ≡ Some v → v < inputs + k
       passed-before c v at = elim (passes-by op) [
         | inl mul ↦
-            before c v (ap (λ (vs : List Operand). slice_get (map (value_number code) vs) c) (sym (product-passes op mul)) ∙ at)
+            before c v (ap (λ (vs : List Operand). slice_get (map (value_number shape) vs) c) (sym (product-passes op mul)) ∙ at)
         | inr others ↦ elim others [
           | inl linear ↦
-              before c v (ap (λ (vs : List Operand). slice_get (map (value_number code) vs) c) (sym (linear-passes op linear)) ∙ at)
+              before c v (ap (λ (vs : List Operand). slice_get (map (value_number shape) vs) c) (sym (linear-passes op linear)) ∙ at)
           | inr none ↦
-              absurd (nothing-there c v (ap (λ (vs : List Operand). slice_get (map (value_number code) vs) c) (sym none) ∙ at))
+              absurd (nothing-there c v (ap (λ (vs : List Operand). slice_get (map (value_number shape) vs) c) (sym none) ∙ at))
         ]
       ]
 
       -- each of the operands is among the first n values
-      pub passed-there : (n c : ℕ) → inputs + k ≡ n → IfSome (slice_get (map (value_number code) (passed_to op)) c) (λ v. v < n)
-      passed-there n c long = below (slice_get (map (value_number code) (passed_to op)) c) refl
+      pub passed-there : (n c : ℕ) → inputs + k ≡ n → IfSome (slice_get (map (value_number shape) (passed_to op)) c) (λ v. v < n)
+      passed-there n c long = below (slice_get (map (value_number shape) (passed_to op)) c) refl
         where
-          below : (o : Option ℕ) → o ≡ slice_get (map (value_number code) (passed_to op)) c → IfSome o (λ v. v < n)
+          below : (o : Option ℕ) → o ≡ slice_get (map (value_number shape) (passed_to op)) c → IfSome o (λ v. v < n)
           below None is = tt
           below (Some v) is = omega (arith, passed-before c v (sym is), long)
 
@@ -294,7 +297,7 @@ module _ (code : Listing) (blocks : List Op) where
 
       -- it passes the place on to the value
       abbrev Passes : ℕ → Place → Type 0
-      Passes v p = (c : ℕ) × (slice_get (map (value_number code) (passed_to op)) c ≡ Some v) × Brings c p
+      Passes v p = (c : ℕ) × (slice_get (map (value_number shape) (passed_to op)) c ≡ Some v) × Brings c p
 
       -- a place that is reached from this block on is reached from the next on, or the block passes it on
       pub reached-by : (v : ℕ) (p : Place) → ReachedFrom k v p → ReachedFrom (k + 1) v p ⊎ Passes v p
@@ -303,18 +306,18 @@ module _ (code : Listing) (blocks : List Op) where
             let at = product-of p reach.operand reach.stands in
             let is : at.0 ≡ op = same_Some at.0 op (sym at.1 ∙ ap (slice_get blocks) (sym same) ∙ there) in
             let mul : operator op ≡ Operator.Mul = ap operator (sym is) ∙ at.2.0 in
-            let stands : slice_get (map (value_number code) (shared_operands op)) p.operand ≡ Some reach.operand =
-            ap (λ (o : Op). slice_get (map (value_number code) (shared_operands o)) p.operand) (sym is) ∙ at.2.1 in
+            let stands : slice_get (map (value_number shape) (shared_operands op)) p.operand ≡ Some reach.operand =
+            ap (λ (o : Op). slice_get (map (value_number shape) (shared_operands o)) p.operand) (sym is) ∙ at.2.1 in
             let low : reach.operand < inputs + k = before p.operand reach.operand stands in
             let led : nat_eq v reach.operand ≡ true =
             sym (leads-behind (inputs + k + 1) (drop (k + 1) ls) reach.operand v (omega (arith, low)))
-            ∙ sym (leads-kept (inputs + k) (link_of code op) (drop (k + 1) ls) reach.operand v
+            ∙ sym (leads-kept (inputs + k) (link_of shape op) (drop (k + 1) ls) reach.operand v
             (strong-kept (leads (inputs + k + 1) (drop (k + 1) ls) reach.operand (inputs + k)) (strong-product op mul)))
             ∙ sym (here-leads reach.operand v) ∙ reach.on in
             let one : v ≡ reach.operand = eqb-true v reach.operand led in
             inr (
               p.operand,
-              ap (λ (vs : List Operand). slice_get (map (value_number code) vs) p.operand) (product-passes op mul) ∙ stands
+              ap (λ (vs : List Operand). slice_get (map (value_number shape) vs) p.operand) (product-passes op mul) ∙ stands
                   ∙ ap (λ (w : ℕ). Some w) (sym one),
               inl (mul, same-place (place_of k p.operand) p same refl),
             )
@@ -328,15 +331,15 @@ module _ (code : Listing) (blocks : List Op) where
                 stands = reach.stands;
                 on =
                     later-leads reach.operand v
-                    ∙ sym (leads-kept (inputs + k) (link_of code op) (drop (k + 1) ls) reach.operand v keeps)
+                    ∙ sym (leads-kept (inputs + k) (link_of shape op) (drop (k + 1) ls) reach.operand v keeps)
                     ∙ sym (here-leads reach.operand v) ∙ reach.on;
               })
               | inl passes ↦
                   let from : (kind op ≡ Linear) × (mark ≡ true) = carries-from (kind op) mark passes in
-                  let shared : List ℕ = map (value_number code) (shared_operands op) in
+                  let shared : List ℕ = map (value_number shape) (shared_operands op) in
                   let rest : Bool = leads (inputs + k + 1) (drop (k + 1) ls) reach.operand v in
                   let led : (if is_among shared v then true else rest) ≡ true =
-                  sym (leads-passed (inputs + k) (link_of code op) (drop (k + 1) ls) reach.operand v passes) ∙ sym (here-leads reach.operand v) ∙ reach.on in
+                  sym (leads-passed (inputs + k) (link_of shape op) (drop (k + 1) ls) reach.operand v passes) ∙ sym (here-leads reach.operand v) ∙ reach.on in
                   elim (cases_Bool (is_among shared v)) [
                     | inr away ↦ inl (record {
                       late = late;
@@ -350,7 +353,7 @@ module _ (code : Listing) (blocks : List Op) where
                         record { late = late; operand = reach.operand; stands = reach.stands; on = later-leads reach.operand (inputs + k) ∙ from.1 } in
                         inr (
                           hit.0,
-                          ap (λ (vs : List Operand). slice_get (map (value_number code) vs) hit.0) (linear-passes op from.0)
+                          ap (λ (vs : List Operand). slice_get (map (value_number shape) vs) hit.0) (linear-passes op from.0)
                               ∙ hit.1.there ∙ ap (λ (w : ℕ). Some w) (eqb-true hit.1.value v hit.1.is),
                           inr (from.0, whole),
                         )
@@ -366,32 +369,32 @@ module _ (code : Listing) (blocks : List Op) where
         stands = reach.stands;
         on =
             here-leads reach.operand v
-            ∙ still (inputs + k) (link_of code op) (drop (k + 1) ls) reach.operand v (sym (later-leads reach.operand v) ∙ reach.on);
+            ∙ still (inputs + k) (link_of shape op) (drop (k + 1) ls) reach.operand v (sym (later-leads reach.operand v) ∙ reach.on);
       }
 
       -- so is what this block passes on
       reached-passed : (v : ℕ) (p : Place) → Passes v p → ReachedFrom k v p
       reached-passed v p passes = elim passes.2 [
         | inl own ↦
-            let stands : slice_get (map (value_number code) (shared_operands op)) passes.0 ≡ Some v =
-            ap (λ (vs : List Operand). slice_get (map (value_number code) vs) passes.0) (sym (product-passes op own.0)) ∙ passes.1 in
+            let stands : slice_get (map (value_number shape) (shared_operands op)) passes.0 ≡ Some v =
+            ap (λ (vs : List Operand). slice_get (map (value_number shape) vs) passes.0) (sym (product-passes op own.0)) ∙ passes.1 in
             let low : v < inputs + k = before passes.0 v stands in
             subst (ReachedFrom k v) own.1 (record {
               late = omega arith;
               operand = v;
               stands =
-                  subst (λ (o : Option Op). IsSomeAnd o (λ op. (operator op ≡ Operator.Mul) × (slice_get (map (value_number code) (shared_operands op)) passes.0 ≡ Some v)))
+                  subst (λ (o : Option Op). IsSomeAnd o (λ op. (operator op ≡ Operator.Mul) × (slice_get (map (value_number shape) (shared_operands op)) passes.0 ≡ Some v)))
                   (sym there) (own.0, stands);
               on =
                   here-leads v v
-                  ∙ leads-kept (inputs + k) (link_of code op) (drop (k + 1) ls) v v
+                  ∙ leads-kept (inputs + k) (link_of shape op) (drop (k + 1) ls) v v
                   (strong-kept (leads (inputs + k + 1) (drop (k + 1) ls) v (inputs + k)) (strong-product op own.0))
                   ∙ leads-behind (inputs + k + 1) (drop (k + 1) ls) v v (omega (arith, low)) ∙ eq-eqb v v refl;
             })
         | inr whole ↦
-            let shared : List ℕ = map (value_number code) (shared_operands op) in
+            let shared : List ℕ = map (value_number shape) (shared_operands op) in
             let at : slice_get shared passes.0 ≡ Some v =
-            ap (λ (vs : List Operand). slice_get (map (value_number code) vs) passes.0) (sym (linear-passes op whole.0)) ∙ passes.1 in
+            ap (λ (vs : List Operand). slice_get (map (value_number shape) vs) passes.0) (sym (linear-passes op whole.0)) ∙ passes.1 in
             let hit : Bool = leads (inputs + k + 1) (drop (k + 1) ls) whole.1.operand (inputs + k) in
             let rest : Bool = leads (inputs + k + 1) (drop (k + 1) ls) whole.1.operand v in
             record {
@@ -400,7 +403,7 @@ module _ (code : Listing) (blocks : List Op) where
               stands = whole.1.stands;
               on =
                   here-leads whole.1.operand v
-                  ∙ leads-passed (inputs + k) (link_of code op) (drop (k + 1) ls) whole.1.operand v
+                  ∙ leads-passed (inputs + k) (link_of shape op) (drop (k + 1) ls) whole.1.operand v
                   (carries-at (kind op) hit whole.0 (sym (later-leads whole.1.operand (inputs + k)) ∙ whole.1.on))
                   ∙ cond-true (is_among shared v) true rest (any_marked-at (only v) shared passes.0 (record { value = v; there = at; is = eq-eqb v v refl }));
             }
@@ -408,7 +411,7 @@ module _ (code : Listing) (blocks : List Op) where
 
       module _ (own : List Place) (own_is : AreFrom (k + 1) (inputs + k) own) where
         -- what the block passes on, as a list
-        brings-is : (c v : ℕ) (p : Place) → slice_get (map (value_number code) (passed_to op)) c ≡ Some v
+        brings-is : (c v : ℕ) (p : Place) → slice_get (map (value_number shape) (passed_to op)) c ≡ Some v
             → Contains (brought op own (place_of k c ∷ [])) p ↔ Brings c p
         brings-is c v p at = (
           λ held. elim (passes-by op) [
@@ -418,7 +421,7 @@ module _ (code : Listing) (blocks : List Op) where
               | inl linear ↦
                   inr (linear, (own_is p).0 (subst (λ (xs : List Place). Contains xs p) (linear-brings op own (place_of k c ∷ []) linear) held))
               | inr none ↦
-                  absurd (nothing-there c v (ap (λ (vs : List Operand). slice_get (map (value_number code) vs) c) (sym none) ∙ at))
+                  absurd (nothing-there c v (ap (λ (vs : List Operand). slice_get (map (value_number shape) vs) c) (sym none) ∙ at))
             ]
           ],
           λ brings. elim brings [
@@ -431,17 +434,17 @@ module _ (code : Listing) (blocks : List Op) where
         )
 
         module _ (table between after : List (List Place)) (are : AreReached (k + 1) (inputs + k) table)
-            (one : IsBrought table (slice_get (map (value_number code) (passed_to op)) 1) (brought op own (place_of k 1 ∷ [])) between)
-            (other : IsBrought between (slice_get (map (value_number code) (passed_to op)) 0) (brought op own (place_of k 0 ∷ [])) after) where
+            (one : IsBrought table (slice_get (map (value_number shape) (passed_to op)) 1) (brought op own (place_of k 1 ∷ [])) between)
+            (other : IsBrought between (slice_get (map (value_number shape) (passed_to op)) 0) (brought op own (place_of k 0 ∷ [])) after) where
           -- as many values have places as before
           long_between : length between ≡ length table
-          long_between = brought-long table between (slice_get (map (value_number code) (passed_to op)) 1) (brought op own (place_of k 1 ∷ [])) one
+          long_between = brought-long table between (slice_get (map (value_number shape) (passed_to op)) 1) (brought op own (place_of k 1 ∷ [])) one
 
           -- a value has the places that it had, and those that this block passes on to it
           taken : (v : ℕ) (p : Place) → v < inputs + k → Contains (get_or after v []) p ↔ (Contains (get_or table v []) p ⊎ Passes v p)
           taken v p below =
-              let at_one = brought-at table between (slice_get (map (value_number code) (passed_to op)) 1) (brought op own (place_of k 1 ∷ [])) one v p (omega (arith, below, are.long)) in
-              let at_other = brought-at between after (slice_get (map (value_number code) (passed_to op)) 0) (brought op own (place_of k 0 ∷ [])) other v p
+              let at_one = brought-at table between (slice_get (map (value_number shape) (passed_to op)) 1) (brought op own (place_of k 1 ∷ [])) one v p (omega (arith, below, are.long)) in
+              let at_other = brought-at between after (slice_get (map (value_number shape) (passed_to op)) 0) (brought op own (place_of k 0 ∷ [])) other v p
               (omega (arith, below, are.long, long_between)) in (
                 λ held. elim (at_other.0 held) [
                   | inl had ↦ elim (at_one.0 had) [
@@ -456,26 +459,26 @@ module _ (code : Listing) (blocks : List Op) where
                 ],
               )
             where
-              by_place : (c : ℕ) → slice_get (map (value_number code) (passed_to op)) c ≡ Some v → Contains (brought op own (place_of k c ∷ [])) p
-                  → (Contains (get_or table v []) p ⊎ ((slice_get (map (value_number code) (passed_to op)) 1 ≡ Some v) × Contains (brought op own (place_of k 1 ∷ [])) p)
+              by_place : (c : ℕ) → slice_get (map (value_number shape) (passed_to op)) c ≡ Some v → Contains (brought op own (place_of k c ∷ [])) p
+                  → (Contains (get_or table v []) p ⊎ ((slice_get (map (value_number shape) (passed_to op)) 1 ≡ Some v) × Contains (brought op own (place_of k 1 ∷ [])) p)
                   → Contains (get_or between v []) p)
-                  → (Contains (get_or between v []) p ⊎ ((slice_get (map (value_number code) (passed_to op)) 0 ≡ Some v) × Contains (brought op own (place_of k 0 ∷ [])) p)
+                  → (Contains (get_or between v []) p ⊎ ((slice_get (map (value_number shape) (passed_to op)) 0 ≡ Some v) × Contains (brought op own (place_of k 0 ∷ [])) p)
                   → Contains (get_or after v []) p)
                   → Contains (get_or after v []) p
               by_place zero at held to_one to_other = to_other (inr (at, held))
               by_place (suc zero) at held to_one to_other = to_other (inl (to_one (inr (at, held))))
               by_place (suc (suc c)) at held to_one to_other =
-                  absurd (omega (arith, slice_get_within (map (value_number code) (passed_to op)) (suc (suc c)) v at, length-map (passed_to op) (value_number code), two-passed op))
+                  absurd (omega (arith, slice_get_within (map (value_number shape) (passed_to op)) (suc (suc c)) v at, length-map (passed_to op) (value_number shape), two-passed op))
 
           -- the table behind this block
           reached-brought : AreReached k (inputs + k) after
           reached-brought = record {
             long =
-                brought-long between after (slice_get (map (value_number code) (passed_to op)) 0) (brought op own (place_of k 0 ∷ [])) other
+                brought-long between after (slice_get (map (value_number shape) (passed_to op)) 0) (brought op own (place_of k 0 ∷ [])) other
                 ∙ long_between ∙ are.long;
             ascending =
-                brought-ascending between after (slice_get (map (value_number code) (passed_to op)) 0) (brought op own (place_of k 0 ∷ [])) other
-                (brought-ascending table between (slice_get (map (value_number code) (passed_to op)) 1) (brought op own (place_of k 1 ∷ [])) one are.ascending);
+                brought-ascending between after (slice_get (map (value_number shape) (passed_to op)) 0) (brought op own (place_of k 0 ∷ [])) other
+                (brought-ascending table between (slice_get (map (value_number shape) (passed_to op)) 1) (brought op own (place_of k 1 ∷ [])) one are.ascending);
             reached = λ v below p. (
               λ held. elim ((taken v p below).0 held) [
                 | inl kept ↦ reached-still v p ((are.reached v below p).0 kept)
@@ -489,7 +492,7 @@ module _ (code : Listing) (blocks : List Op) where
           }
 
         -- the same of the block's step
-        pub reached-step : (table after : List (List Place)) → AreReached (k + 1) (inputs + k) table → IsPassedOn code k op own table after
+        pub reached-step : (table after : List (List Place)) → AreReached (k + 1) (inputs + k) table → IsPassedOn shape k op own table after
             → AreReached k (inputs + k) after
         unfolding IsPassedOn
         reached-step table after are passed = reached-brought table passed.0 after are passed.1 passed.2
@@ -517,13 +520,13 @@ module _ (code : Listing) (blocks : List Op) where
         (reached-still k (get_or blocks k (Const 0)) there v p (subst (λ (i : ℕ). ReachedFrom i v p) e reach))
 
     -- a value that reaches places is there
-    reaches-below : (v : ℕ) (p : Place) → ReachesPlace code blocks v p → v < inputs + length blocks
+    reaches-below : (v : ℕ) (p : Place) → ReachesPlace shape blocks v p → v < inputs + length blocks
     reaches-below v p reaches =
-        let value : HasValue code blocks v = reaches-there code blocks wired v p.block p.operand reaches.1 in
-        omega (arith, number-there code blocks value.value value.there, value.is)
+        let value : HasValue shape blocks v = reaches-there shape blocks wired v p.block p.operand reaches.1 in
+        omega (arith, number-there shape blocks value.value value.there, value.is)
 
     -- no other value reaches any
-    pub reached-past : (v : ℕ) → inputs + length blocks ≤ v → ArePlacesOf code blocks v []
+    pub reached-past : (v : ℕ) → inputs + length blocks ≤ v → ArePlacesOf shape blocks v []
     unfolding AreAscending
     reached-past v past = record {
       ascending = tt;
@@ -531,38 +534,38 @@ module _ (code : Listing) (blocks : List Op) where
     }
 
     -- what is reached from the first block on is reached
-    reaches-is : (v : ℕ) (p : Place) → ReachedFrom 0 v p ↔ ReachesPlace code blocks v p
+    reaches-is : (v : ℕ) (p : Place) → ReachedFrom 0 v p ↔ ReachesPlace shape blocks v p
     reaches-is v p =
         let start : (w : ℕ) → leads (inputs + 0) (drop 0 ls) w v ≡ leads inputs ls w v =
         λ w. let e : inputs + 0 ≡ inputs = omega arith in ap (λ (a : ℕ). leads a ls w v) e in (
           λ reach.
               let at = product-of p reach.operand reach.stands in (
                 subst (λ (o : Option Op). IsSomeAnd o (λ op. operator op ≡ Operator.Mul)) (sym at.1) at.2.0,
-                Reaches-from inputs ls v p.block p.operand reach.operand (link_of code at.0) (links-at code blocks p.block at.0 at.1)
+                Reaches-from inputs ls v p.block p.operand reach.operand (link_of shape at.0) (links-at shape blocks p.block at.0 at.1)
                     (strong-product at.0 at.2.0) at.2.1 (sym (start reach.operand) ∙ reach.on),
               ),
           λ reaches.
               let product : (op : Op) × (slice_get blocks p.block ≡ Some op) × (operator op ≡ Operator.Mul) =
               IsSomeAnd-value (slice_get blocks p.block) (λ op. operator op ≡ Operator.Mul) reaches.0 in
-              let strong : (kind product.0 ≡ Strong) × (slice_get (map (value_number code) (shared_operands product.0)) p.operand ≡ Some reaches.1.operand) =
+              let strong : (kind product.0 ≡ Strong) × (slice_get (map (value_number shape) (shared_operands product.0)) p.operand ≡ Some reaches.1.operand) =
               subst (λ (o : Option Link). IsSomeAnd o (λ link. (link.kind ≡ Strong) × (slice_get link.shared p.operand ≡ Some reaches.1.operand)))
-              (links-at code blocks p.block product.0 product.1) reaches.1.strong in
+              (links-at shape blocks p.block product.0 product.1) reaches.1.strong in
               record {
                 late = omega arith;
                 operand = reaches.1.operand;
                 stands =
-                    subst (λ (o : Option Op). IsSomeAnd o (λ op. (operator op ≡ Operator.Mul) × (slice_get (map (value_number code) (shared_operands op)) p.operand ≡ Some reaches.1.operand)))
+                    subst (λ (o : Option Op). IsSomeAnd o (λ op. (operator op ≡ Operator.Mul) × (slice_get (map (value_number shape) (shared_operands op)) p.operand ≡ Some reaches.1.operand)))
                     (sym product.1) (product.2, strong.1);
                 on =
                     start reaches.1.operand
-                    ∙ Reaches-leads inputs ls (wired-ordered code blocks wired) v p.block p.operand reaches.1.operand (link_of code product.0)
-                    (links-at code blocks p.block product.0 product.1) strong.1 reaches.1;
+                    ∙ Reaches-leads inputs ls (wired-ordered shape blocks wired) v p.block p.operand reaches.1.operand (link_of shape product.0)
+                    (links-at shape blocks p.block product.0 product.1) strong.1 reaches.1;
               },
         )
 
     -- where the blocks behind a value have passed places on, these are all that it reaches
     pub reached-all : (k v : ℕ) (places : List Place) → k ≤ length blocks → k ≤ v + 1 - inputs → AreAscending places → AreFrom k v places
-        → ArePlacesOf code blocks v places
+        → ArePlacesOf shape blocks v places
     reached-all k v places within behind ascending from = record {
       ascending = ascending;
       reached = λ p. (

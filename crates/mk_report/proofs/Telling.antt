@@ -3,11 +3,10 @@ use Rattle.std.proofs.Common.{◌≡◌, ◌⊎◌, ℕ, suc, ◌+◌, ◌-◌, 
 use Rattle.std.proofs.lemmas.Bool.{cases_eq, cases_lt}
 use Rattle.std.proofs.lemmas.List.{length-append}
 use Rattle.std.proofs.lemmas.Option.{get_or_from_slice_get}
-use Rattle.mk_code.specs.Listing.{Listing}
 use Rattle.mk_ssa.specs.declared.Op.{Op}
-use Rattle.mk_ssa.proofs.Lists.{slice_get-more, slice_get-last}
+use Rattle.mk_ssa.proofs.Lists.{slice_get-more, slice_get-last, IsSomeAnd-value}
+use Rattle.mk_rules.specs.Shape.{Shape}
 use Rattle.mk_rules.specs.Wired.{Wired}
-use Rattle.mk_rules.proofs.Places.{IsSomeAnd-value}
 use Rattle.mk_report.specs.declared.need.Place.{Place}
 use Rattle.mk_report.specs.declared.need.Told.{Told}
 use Rattle.mk_report.specs.Reached.{ArePlacesOf}
@@ -23,14 +22,15 @@ told-at places told v i x are within at is =
     let same : x ≡ found.0 = is ∙ get_or_from_slice_get told i found.0 x (ap (slice_get told) at ∙ found.1) in
     subst (IsTold (places v)) (sym same) found.2
 
-module _ (code : Listing) (blocks : List Op) where
+module _ (shape : Shape) (blocks : List Op) where
+  -- how many values there are
   abbrev total : ℕ
-  total = code.secrets + code.publics + length blocks
+  total = shape.secrets + shape.publics + length blocks
 
   -- this is told of the places of products that the value reaches
   pub record IsToldOf (v : ℕ) (x : Told) : Type 0 where
     pub places : List Place
-    pub are : ArePlacesOf code blocks v places
+    pub are : ArePlacesOf shape blocks v places
     pub is : IsTold places x
 
   -- these are told of the values from value n on, of the last one first
@@ -43,7 +43,7 @@ module _ (code : Listing) (blocks : List Op) where
   told-none n last = record { long = omega (arith, last); each = λ v from below. absurd (omega (arith, last, from, below)) }
 
   -- one value more
-  pub told-more : (n m : ℕ) (told : List Told) (x : Told) (places : List Place) → m ≡ n + 1 → AreToldFrom m told → ArePlacesOf code blocks n places
+  pub told-more : (n m : ℕ) (told : List Told) (x : Told) (places : List Place) → m ≡ n + 1 → AreToldFrom m told → ArePlacesOf shape blocks n places
       → IsTold places x → AreToldFrom n (told ++ x ∷ [])
   told-more n m told x places next told_are places_are is = record {
     long = omega (arith, length-append told (x ∷ []), told_are.long, next);
@@ -60,7 +60,7 @@ module _ (code : Listing) (blocks : List Op) where
     ];
   }
 
-  module _ (wired : Wired code blocks) (told : List Told) (told_are : AreToldFrom 0 told) where
+  module _ (wired : Wired shape blocks) (told : List Told) (told_are : AreToldFrom 0 told) where
     -- what is told of a value that is there
     told_there : (v : ℕ) → v < total → (x : Told) × (slice_get told (total - suc v) ≡ Some x) × IsToldOf v x
     told_there v below = told_are.each v (omega arith) below
@@ -71,9 +71,9 @@ module _ (code : Listing) (blocks : List Op) where
     places_by v (inr past) = []
 
     -- it reaches them
-    places-are : (v : ℕ) (d : (v < total) ⊎ (total ≤ v)) → ArePlacesOf code blocks v (places_by v d)
+    places-are : (v : ℕ) (d : (v < total) ⊎ (total ≤ v)) → ArePlacesOf shape blocks v (places_by v d)
     places-are v (inl below) = (told_there v below).2.are
-    places-are v (inr past) = reached-past code blocks wired v past
+    places-are v (inr past) = reached-past shape blocks wired v past
 
     -- they are told of
     places-told : (v i : ℕ) (d : (v < total) ⊎ (total ≤ v)) → v < total → i ≡ total - suc v → IsSomeAnd (slice_get told i) (IsTold (places_by v d))
@@ -83,7 +83,7 @@ module _ (code : Listing) (blocks : List Op) where
     places-told v i (inr past) within at = absurd (omega (arith, past, within))
 
     -- so all values are told of
-    pub tells-of : TellsOf code blocks told
+    pub tells-of : TellsOf shape blocks told
     tells-of = record {
       places = λ v. places_by v (cases_lt v total);
       reached = λ v. places-are v (cases_lt v total);

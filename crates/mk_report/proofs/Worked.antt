@@ -10,9 +10,11 @@ use Rattle.mk_gadget.specs.Refresh.{refresh_sum}
 use Rattle.mk_report.specs.Report.{secret_line, block_line, total_line}
 use Rattle.mk_report.proofs.Passed.{place_of}
 
+-- a refresh of the secret
 abbrev refresh : Op
 refresh = Refresh (Secret 0)
 
+-- the product of the refreshed secret and the secret
 abbrev product : Op
 product = Mul (Block 0) (Secret 0)
 
@@ -31,6 +33,7 @@ pub second : block_line 1 1 product [] ≡ codes "b1 mul 9 1 0 -\n"
 unfolding digits randoms pairs_upto others
 second = refl
 
+-- the line of what the two cost together
 pub total : total_line 1 (refresh ∷ product ∷ []) ≡ codes "total 2 12 2\n"
 unfolding digits randoms pairs_upto others refresh_sum
 total = refl

@@ -1,11 +1,12 @@
 -- What the pass from the last block to the first does: each block passes places on to its operands, and
--- then it is told how many places its own value reaches, and which are the first.
+-- then it is told how many places its own value reaches, and which are the first. What the calls of the crate
+-- promise needs none of it.
 use Rattle.std.specs.Prelude.{◌≡◌, true, ◌↔◌, ◌⊎◌, ℕ, suc, ◌-◌, ◌<◌, Option, None, Some, IsSomeAnd, List, [], ◌∷◌, length, take, map, Contains, slice_get, slice_index_or, slice_set}
-use Rattle.mk_code.specs.Listing.{Listing}
 use Rattle.mk_ssa.specs.declared.Operand.{Operand}
 use Rattle.mk_ssa.specs.declared.Op.{Op}
 use Rattle.mk_ssa.specs.declared.Op.TheVariants.{Mul, Refresh}
 use Rattle.mk_ssa.specs.Kinds.{shared_operands}
+use Rattle.mk_rules.specs.Shape.{Shape}
 use Rattle.mk_rules.specs.Tiles.{value_number}
 use Rattle.mk_report.specs.declared.need.Place.{Place}
 use Rattle.mk_report.specs.declared.need.Told.{Told}
@@ -42,11 +43,11 @@ IsBrought table (Some v) places after =
 
 -- the table in which the operands of the block with this number, whose value reaches these places, have what
 -- it passes on: first the second operand, then the first
-unfoldable pub IsPassedOn : Listing → ℕ → Op → List Place → List (List Place) → List (List Place) → Type 0
-IsPassedOn code k op own table after =
+unfoldable pub IsPassedOn : Shape → ℕ → Op → List Place → List (List Place) → List (List Place) → Type 0
+IsPassedOn shape k op own table after =
     (between : List (List Place))
-    × IsBrought table (slice_get (map (value_number code) (passed_to op)) 1) (brought op own (record { block = k; operand = 1 } ∷ [])) between
-    × IsBrought between (slice_get (map (value_number code) (passed_to op)) 0) (brought op own (record { block = k; operand = 0 } ∷ [])) after
+    × IsBrought table (slice_get (map (value_number shape) (passed_to op)) 1) (brought op own (record { block = k; operand = 1 } ∷ [])) between
+    × IsBrought between (slice_get (map (value_number shape) (passed_to op)) 0) (brought op own (record { block = k; operand = 0 } ∷ [])) after
 
 -- how many places there are, and the first eight of them
 abbrev pub IsTold : List Place → Told → Type 0
@@ -57,7 +58,7 @@ abbrev pub AreTold : (ℕ → List Place) → List Told → Type 0
 AreTold places told = (v : ℕ) → v < length told → IsSomeAnd (slice_get told (length told - suc v)) (IsTold (places v))
 
 -- these are told of the places of products that each value reaches
-pub record TellsOf (code : Listing) (blocks : List Op) (told : List Told) : Type 0 where
+pub record TellsOf (shape : Shape) (blocks : List Op) (told : List Told) : Type 0 where
   pub places : ℕ → List Place
-  pub reached : (v : ℕ) → ArePlacesOf code blocks v (places v)
+  pub reached : (v : ℕ) → ArePlacesOf shape blocks v (places v)
   pub are : AreTold places told

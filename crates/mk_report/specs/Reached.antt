@@ -1,8 +1,8 @@
 -- The places of products that a value reaches, in order.
 use Rattle.std.specs.Prelude.{◌≡◌, ◌↔◌, ℕ, ◌+◌, Bool, true, ◌&&◌, ◌||◌, nat_lt, nat_eq, List, [], ◌∷◌, Contains, IsSomeAnd, slice_get}
-use Rattle.mk_code.specs.Listing.{Listing}
 use Rattle.mk_ssa.specs.declared.Op.{Op}
 use Rattle.mk_ssa.specs.Operators.{Operator, operator}
+use Rattle.mk_rules.specs.Shape.{Shape}
 use Rattle.mk_rules.specs.Reaches.{Reaches, links}
 use Rattle.mk_report.specs.declared.need.Place.{Place}
 
@@ -11,9 +11,9 @@ abbrev pub IsProduct : List Op → ℕ → Type 0
 IsProduct blocks b = IsSomeAnd (slice_get blocks b) (λ op. operator op ≡ Operator.Mul)
 
 -- the value with this number reaches this place, which is one of a product
-abbrev pub ReachesPlace : Listing → List Op → ℕ → Place → Type 0
-ReachesPlace code blocks v p =
-    IsProduct blocks p.block × Reaches (code.secrets + code.publics) (links code blocks) v p.block p.operand
+abbrev pub ReachesPlace : Shape → List Op → ℕ → Place → Type 0
+ReachesPlace shape blocks v p =
+    IsProduct blocks p.block × Reaches (shape.secrets + shape.publics) (links shape blocks) v p.block p.operand
 
 -- whether a place comes before another one: by block, and then by operand
 abbrev pub is_before : Place → Place → Bool
@@ -25,6 +25,6 @@ AreAscending [] = Unit {0}
 AreAscending (p ∷ ps) = ((q : Place) → Contains ps q → is_before p q ≡ true) × AreAscending ps
 
 -- these are the places of products that the value reaches, in order
-pub record ArePlacesOf (code : Listing) (blocks : List Op) (v : ℕ) (places : List Place) : Type 0 where
-  pub reached : (p : Place) → Contains places p ↔ ReachesPlace code blocks v p
+pub record ArePlacesOf (shape : Shape) (blocks : List Op) (v : ℕ) (places : List Place) : Type 0 where
+  pub reached : (p : Place) → Contains places p ↔ ReachesPlace shape blocks v p
   pub ascending : AreAscending places

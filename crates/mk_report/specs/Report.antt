@@ -1,13 +1,15 @@
 -- The text of a report: a line for each secret, one for each block, and the totals.
-use Rattle.std.specs.Prelude.{◌≡◌, ℕ, ◌+◌, List, [], ◌∷◌, ◌++◌, length, take, codes, decimal}
-use Rattle.std.specs.List.{flat_map, range_with_len, enumerate_from, sum_by}
+use Rattle.std.specs.Prelude.{◌≡◌, ℕ, false, nat_eq, ◌+◌, List, [], ◌∷◌, ◌++◌, length, take, codes, decimal}
+use Rattle.std.specs.List.{flat_map, list_any, range_with_len, enumerate_from, sum_by}
 use Rattle.mk_code.specs.Listing.{Listing}
 use Rattle.mk_code.specs.Trace.{randoms}
 use Rattle.mk_ssa.specs.declared.Op.{Op}
 use Rattle.mk_ssa.specs.declared.Operand.TheVariants.{Secret, Block}
 use Rattle.mk_ssa.specs.Operators.{operator_word}
 use Rattle.mk_gadget.specs.Template.{built_in}
+use Rattle.mk_rules.specs.Shape.{Shape, shape_of}
 use Rattle.mk_rules.specs.Claimed.{Claimed}
+use Rattle.mk_lines.specs.CertLines.{op_line, block_line as line_of_block}
 use Rattle.mk_lines.specs.Words.{line, operand_word}
 use Rattle.mk_report.specs.declared.need.Place.{Place}
 use Rattle.mk_report.specs.Reached.{ArePlacesOf}
@@ -43,6 +45,16 @@ block_line order k op places =
     line (operand_word (Block k) ++ codes " " ++ operator_word op ++ codes " " ++ decimal (instrs_of order op) ++ codes " "
     ++ decimal (randoms_of order op) ++ codes " " ++ need_words places)
 
+-- the line of a block has for its kind the word that stands for it in the bundle text: one without a space,
+-- behind `block ` and before a space
+pub record NamesKind (order k : ℕ) (op : Op) (places : List Place) : Type 0 where
+  pub kind : List ℕ
+  pub rest : List ℕ
+  pub words : List ℕ
+  pub one : list_any (nat_eq 32) kind ≡ false
+  pub told : block_line order k op places ≡ line (operand_word (Block k) ++ codes " " ++ kind ++ codes " " ++ rest)
+  pub written : op_line op ≡ line_of_block kind words
+
 -- how many blocks there are, and what they cost together
 abbrev pub total_line : ℕ → List Op → List ℕ
 total_line order blocks =
@@ -50,14 +62,14 @@ total_line order blocks =
     ++ decimal (sum_by (randoms_of order) blocks))
 
 -- the text where each value reaches these places
-abbrev pub report_text : Listing → List Op → (ℕ → List Place) → List ℕ
-report_text code blocks places =
-    flat_map (λ k. secret_line k (places k)) (range_with_len 0 code.secrets)
-    ++ flat_map (λ row. block_line code.order row.0 row.1 (places (code.secrets + code.publics + row.0))) (enumerate_from 0 blocks)
-    ++ total_line code.order blocks
+abbrev pub report_text : Shape → List Op → (ℕ → List Place) → List ℕ
+report_text shape blocks places =
+    flat_map (λ k. secret_line k (places k)) (range_with_len 0 shape.secrets)
+    ++ flat_map (λ row. block_line shape.order row.0 row.1 (places (shape.secrets + shape.publics + row.0))) (enumerate_from 0 blocks)
+    ++ total_line shape.order blocks
 
 -- the report: of each value the places of products that it reaches
 pub record IsReport (code : Listing) (cert : Claimed) (text : List ℕ) : Type 0 where
   pub places : ℕ → List Place
-  pub reached : (v : ℕ) → ArePlacesOf code cert.blocks v (places v)
-  pub is : text ≡ report_text code cert.blocks places
+  pub reached : (v : ℕ) → ArePlacesOf (shape_of code) cert.blocks v (places v)
+  pub is : text ≡ report_text (shape_of code) cert.blocks places

@@ -3,6 +3,7 @@
 ghost use Rattle.std.specs.Prelude.{◌≡◌, ◌+◌, ◌<◌, ◌≤◌, ◌^◌, ◌++◌, ℕ, List, length, OnOk, string_bytes, codes};
 ghost use Rattle.std.specs.List.{flat_map, range_with_len, enumerate_from, sum_by};
 ghost use Rattle.mk_base.specs.declared.TheConstants.{TOP_ORDER};
+ghost use Rattle.mk_rules.specs.Shape.{shape_of};
 ghost use Rattle.mk_report.specs.Passing.{IsTold, AreTold};
 ghost use Rattle.mk_report.specs.Report.{instrs_of, randoms_of, place_word, places_word, need_words, secret_line, block_line, total_line, report_text};
 
@@ -21,7 +22,8 @@ fn push_place(text: &mut String, place: Place) -> Result<(), AllocError>
 
 /// Appends places, a comma before each.
 fn push_others(text: &mut String, places: &[Place]) -> Result<(), AllocError>
-    ensures { OnOk result (string_bytes text.new ≡ string_bytes text.old ++ flat_map (λ q. codes "," ++ place_word q) places.now) }
+    ensures { OnOk result (string_bytes text.new ≡ string_bytes text.old
+        ++ flat_map (λ q. codes "," ++ place_word q) places.now) }
 {
     for place in places {
         text.push_str(",")?;
@@ -45,7 +47,8 @@ fn push_places(text: &mut String, places: &[Place]) -> Result<(), AllocError>
 
 /// Appends how many places there are, and the first of them.
 fn push_need(text: &mut String, told: &Told) -> Result<(), AllocError>
-    ensures { OnOk result ((places : List Place) → IsTold places told.now → string_bytes text.new ≡ string_bytes text.old ++ need_words places) }
+    ensures { OnOk result ((places : List Place) → IsTold places told.now → string_bytes text.new
+        ≡ string_bytes text.old ++ need_words places) }
 {
     write!(text, "{} ", told.count)?;
     push_places(text, told.shown.as_slice())
@@ -53,7 +56,8 @@ fn push_need(text: &mut String, told: &Told) -> Result<(), AllocError>
 
 /// Appends the line of a secret.
 fn push_secret(text: &mut String, secret: u32, told: &Told) -> Result<(), AllocError>
-    ensures { OnOk result ((places : List Place) → IsTold places told.now → string_bytes text.new ≡ string_bytes text.old ++ secret_line secret places) }
+    ensures { OnOk result ((places : List Place) → IsTold places told.now → string_bytes text.new
+        ≡ string_bytes text.old ++ secret_line secret places) }
 {
     write!(text, "s{secret} input 0 0 ")?;
     push_need(text, told)?;
@@ -69,7 +73,8 @@ fn push_block(
     told: &Told,
 ) -> Result<(), AllocError>
     requires order { (1 ≤ order) × (order ≤ TOP_ORDER) }
-    ensures { OnOk result ((places : List Place) → IsTold places told.now → string_bytes text.new ≡ string_bytes text.old ++ block_line order block op places) }
+    ensures { OnOk result ((places : List Place) → IsTold places told.now → string_bytes text.new
+        ≡ string_bytes text.old ++ block_line order block op places) }
 {
     let price = cost(&op, order);
     let word = op.word();
@@ -91,7 +96,8 @@ fn told_of(told: &[Told], value: usize) -> &Told
 /// Appends the lines of the secrets.
 fn push_secrets(text: &mut String, secrets: u32, told: &[Told]) -> Result<(), AllocError>
     requires { secrets ≤ length told.now }
-    ensures { OnOk result ((places : ℕ → List Place) → AreTold places told.now → string_bytes text.new ≡ string_bytes text.old ++ flat_map (λ k. secret_line k (places k)) (range_with_len 0 secrets)) }
+    ensures { OnOk result ((places : ℕ → List Place) → AreTold places told.now → string_bytes text.new
+        ≡ string_bytes text.old ++ flat_map (λ k. secret_line k (places k)) (range_with_len 0 secrets)) }
 {
     for secret in 0..secrets {
         push_secret(text, secret, told_of(told, secret as usize))?;
@@ -107,10 +113,11 @@ fn push_blocks(
     told: &[Told],
 ) -> Result<(), AllocError>
     requires { length told.now ≡ code.now.secrets + code.now.publics + length blocks.now }
-    ensures { OnOk result ((places : ℕ → List Place) → AreTold places told.now → string_bytes text.new ≡ string_bytes text.old ++ flat_map (λ row. block_line code.now.order row.0 row.1 (places (code.now.secrets + code.now.publics + row.0))) (enumerate_from 0 blocks.now)) }
+    ensures { OnOk result ((places : ℕ → List Place) → AreTold places told.now → string_bytes text.new
+        ≡ string_bytes text.old ++ flat_map (λ row. block_line code.now.order row.0 row.1
+        (places (code.now.secrets + code.now.publics + row.0))) (enumerate_from 0 blocks.now)) }
 {
-    // `field` also ensures that the order is one that there is.
-    let _fits = code.field();
+    code.law();
     let inputs = code.secrets() as usize + code.publics() as usize;
     for (block, op) in blocks.iter().enumerate() {
         push_block(
@@ -170,10 +177,10 @@ pub(crate) fn push_report(
 ) -> Result<(), AllocError>
     requires small { length blocks.now < 2 ^ 32 }
     requires count { length told.now ≡ code.now.secrets + code.now.publics + length blocks.now }
-    ensures { OnOk result ((places : ℕ → List Place) → AreTold places told.now → string_bytes text.new ≡ string_bytes text.old ++ report_text code.now blocks.now places) }
+    ensures { OnOk result ((places : ℕ → List Place) → AreTold places told.now → string_bytes text.new
+        ≡ string_bytes text.old ++ report_text (shape_of code.now) blocks.now places) }
 {
-    // `field` also ensures that the order is one that there is.
-    let _fits = code.field();
+    code.law();
     push_secrets(text, code.secrets(), told)?;
     push_blocks(text, code, blocks, told)?;
     push_total(text, blocks, code.order())

@@ -1,7 +1,8 @@
 //! Which places of products values reach, from the last block to the first.
 
 ghost use Rattle.std.specs.Prelude.{◌≡◌, ◌+◌, ◌<◌, ◌^◌, ℕ, [], length, map, slice_get, slice_index_or, IfOk, OnOk, IfSome};
-ghost use Rattle.mk_rules.specs.Tiles.{value_number};
+ghost use Rattle.mk_rules.specs.Shape.{shape_of};
+ghost use Rattle.mk_rules.specs.Tiles.{value_number as number_by_operand};
 ghost use Rattle.mk_rules.specs.Wired.{Wired};
 ghost use Rattle.mk_report.specs.Reached.{AreAscending};
 ghost use Rattle.mk_report.specs.Passing.{passed_to as operands_of, brought as places_of, AllAscending, IsBrought, IsPassedOn, TellsOf};
@@ -9,18 +10,15 @@ ghost use Rattle.mk_report.specs.Passing.{passed_to as operands_of, brought as p
 use crate::need::{Need, Place, Told, tell, union};
 use mk_base::{Items, Memory};
 use mk_code::Code;
+use mk_rules::value_number;
 use mk_ssa::{Op, Operand};
 use std::alloc::Global;
 
-/// The number of an operand: first the secrets, then the public inputs, then the blocks.
-fn number(code: &Code, operand: Operand) -> usize
-    ensures { result ≡ value_number code.now operand }
+/// The number of an operand.
+fn number_of(code: &Code, operand: Operand) -> usize
+    ensures { result ≡ number_by_operand (shape_of code.now) operand }
 {
-    match operand {
-        Operand::Secret(k) => k as usize,
-        Operand::Public(k) => code.secrets() as usize + k as usize,
-        Operand::Block(k) => code.secrets() as usize + code.publics() as usize + k as usize,
-    }
+    value_number(code.secrets(), code.publics(), operand)
 }
 
 /// The first and the second operand to which a block passes places on.
@@ -36,13 +34,13 @@ fn passed_to(op: Op) -> (Option<Operand>, Option<Operand>)
 
 /// The numbers of these operands.
 fn passed_numbers(code: &Code, op: Op) -> (Option<usize>, Option<usize>)
-    ensures first { result.0 ≡ slice_get (map (value_number code.now) (operands_of op)) 0 }
-    ensures second { result.1 ≡ slice_get (map (value_number code.now) (operands_of op)) 1 }
+    ensures first { result.0 ≡ slice_get (map (number_by_operand (shape_of code.now)) (operands_of op)) 0 }
+    ensures second { result.1 ≡ slice_get (map (number_by_operand (shape_of code.now)) (operands_of op)) 1 }
 {
     let (first, second) = passed_to(op);
     (
-        first.map(|v| number(code, v)),
-        second.map(|v| number(code, v)),
+        first.map(|v| number_of(code, v)),
+        second.map(|v| number_of(code, v)),
     )
 }
 
@@ -97,11 +95,13 @@ fn pass_on(
     op: Op,
     own: &[Place],
 ) -> Result<(), Memory>
-    requires first { IfSome (slice_get (map (value_number code.now) (operands_of op)) 0) (λ v. v < length needs.old.items) }
-    requires second { IfSome (slice_get (map (value_number code.now) (operands_of op)) 1) (λ v. v < length needs.old.items) }
+    requires first { IfSome (slice_get (map (number_by_operand (shape_of code.now)) (operands_of op)) 0)
+        (λ v. v < length needs.old.items) }
+    requires second { IfSome (slice_get (map (number_by_operand (shape_of code.now)) (operands_of op)) 1)
+        (λ v. v < length needs.old.items) }
     requires needs { AllAscending needs.old.items }
     requires own { AreAscending own.now }
-    ensures { OnOk result (IsPassedOn code.now block op own.now needs.old.items needs.new.items) }
+    ensures { OnOk result (IsPassedOn (shape_of code.now) block op own.now needs.old.items needs.new.items) }
 {
     let (first, second) = passed_numbers(code, op);
     let at_first = [Place { block, operand: 0 }];
@@ -114,10 +114,10 @@ fn pass_on(
 /// What is told of the places of products that each value reaches, of the last value first. Places are kept
 /// of values whose uses are not all passed, and of inputs.
 pub(crate) fn reached(alloc: Global, code: &Code, blocks: &[Op]) -> Result<Vec<Told>, Memory>
-    requires wired { Wired code.now blocks.now }
+    requires wired { Wired (shape_of code.now) blocks.now }
     requires small { length blocks.now < 2 ^ 32 }
     ensures count { IfOk result (λ told. length told.items ≡ code.now.secrets + code.now.publics + length blocks.now) }
-    ensures places { IfOk result (λ told. TellsOf code.now blocks.now told.items) }
+    ensures places { IfOk result (λ told. TellsOf (shape_of code.now) blocks.now told.items) }
 {
     let inputs = code.secrets() as usize + code.publics() as usize;
     let mut needs = no_needs(alloc, inputs + blocks.len())?;

@@ -1,11 +1,10 @@
 -- Two traces that agree at the probes, at public values and at needed shares: a block behind them shows each
 -- view equally often, and traces that go on from equal views agree again.
-use Rattle.std.proofs.Common.{◌≡◌, ◌≢◌, ℕ, ◌+◌, ◌*◌, ◌<◌, ◌≤◌, Bool, true, false, List, [], ◌∷◌, ◌++◌, length, map, slice_index, sym, ◌∙◌, ap, refl, subst, arith, inl, inr, eq-eqb}
+use Rattle.std.proofs.Common.{◌≡◌, ◌≢◌, ℕ, ◌+◌, ◌*◌, ◌<◌, Bool, true, false, List, [], ◌∷◌, ◌++◌, length, map, slice_index, sym, ◌∙◌, ap, refl, subst, arith, inl, inr, eq-eqb}
 use Rattle.std.specs.List.{Contains, flat_map}
 use Rattle.std.proofs.lemmas.List.{get_or_append_left}
 use Rattle.std.proofs.lemmas.List.Elements.{Contains-append_cases}
 use Rattle.std.proofs.lemmas.Option.{slice_get-get_or}
-use Rattle.std.proofs.Math.Nat.{mul-le-mul_left}
 use Rattle.mk_field.specs.declared.field.FieldId.{FieldId}
 use Rattle.mk_field.specs.declared.map.AddMap.{AddMap}
 use Rattle.mk_field.specs.Field.{size}
@@ -15,16 +14,18 @@ use Rattle.mk_code.specs.Trace.{run, randoms}
 use Rattle.mk_code.specs.Counting.{total, one_if_equal, AllBelow, Elements}
 use Rattle.mk_code.specs.Private.{observation}
 use Rattle.mk_code.proofs.Runs.{run-behind}
-use Rattle.mk_code.proofs.Steps.{zero-element}
+use Rattle.mk_field.proofs.Sum.{zero-element}
 use Rattle.mk_ssa.specs.Kinds.{Kind, Public, Linear, Strong}
 use Rattle.mk_gadget.specs.Gadget.{Gadget, placed}
 use Rattle.mk_gadget.specs.Steady.{block_ways, DependsAt}
 use Rattle.mk_gadget.specs.PlacedLaw.{placed_view}
 use Rattle.mk_gadget.proofs.Placed.{PlacedLaw-holds}
+use Rattle.mk_gadget.proofs.Steady.{share-inside}
 use Rattle.mk_rules.proofs.Probes.{AllBelow-from, Contains-none, Contains-cases, Contains-first, Contains-more, inside, behind, inside-below, inside-behind}
 use Rattle.mk_rules.proofs.Blocks.{Block, block_len, IsHit, only, need, IsSingle, AllAskFew}
 use Rattle.mk_rules.proofs.Needs.{need-few, need-below, need-asked, need-passed}
-use Rattle.mk_rules.proofs.Views.{length-observation, observation-at, observation-append, observation-below, Contains-at, flat-at, flat-same}
+use Rattle.mk_rules.proofs.Views.{observation-append, observation-below, Contains-at, flat-at, flat-same}
+use Rattle.mk_code.proofs.Observations.{length-observation, observation-at}
 use Rattle.mk_rules.proofs.Standing.{bank, block_reads, block_placed, IsBlock, AreBanks, shared-long, publics-long, length-shared, length-publics, reads-below, reads-fit, reads-within}
 
 -- two traces up to the place `base` have the same values at the probes so far, the same public values, and of
@@ -62,12 +63,6 @@ one-place : (bank u w : List ℕ) → length bank ≡ 1 → slice_index u (slice
 one-place [] u w long same = absurd (omega (arith, long))
 one-place (p ∷ []) u w long same = ap (λ (a : ℕ). a ∷ []) same
 one-place (p ∷ q ∷ ps) u w long same = absurd (omega (arith, long))
-
--- a share of one of m operands stands among the shares
-share-inside : (n m k i : ℕ) → k < m → i < n → n * k + i < n * m
-share-inside n m k i first below =
-    let step : n * (k + 1) ≤ n * m = mul-le-mul_left n (omega (arith, first)) in
-    omega (arith, step, below)
 
 -- the entries before a run stay
 pub run-before : (field : FieldId) (maps : List AddMap) (is : List Instr) (tape entries : List ℕ) (p : ℕ) → p < length entries

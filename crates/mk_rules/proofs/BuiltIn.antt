@@ -1,15 +1,14 @@
 -- The product and the refresh that emitters append may stand for the strong operators.
-use Rattle.std.proofs.Common.{◌≡◌, ℕ, zero, suc, ◌+◌, ◌*◌, ◌<◌, ◌≤◌, List, length, map, sym, subst, arith}
-use Rattle.std.specs.List.{Contains, range_with_len}
+use Rattle.std.proofs.Common.{◌≡◌, ℕ, zero, suc, ◌+◌, ◌*◌, ◌<◌, ◌≤◌, List, length, map, subst, arith}
+use Rattle.std.specs.List.{range_with_len}
 use Rattle.std.proofs.lemmas.List.FromFn.{length-map-range_with_len}
 use Rattle.mk_field.specs.declared.field.FieldId.{FieldId}
 use Rattle.mk_field.specs.declared.map.AddMap.{AddMap}
-use Rattle.mk_code.specs.Listing.{Listing, AllFit}
+use Rattle.mk_code.specs.Listing.{Listing, AllFit, HasElementImages}
 use Rattle.mk_code.specs.Counting.{AllBelow}
 use Rattle.mk_code.specs.Private.{Private}
 use Rattle.mk_ssa.specs.declared.Op.{Op}
 use Rattle.mk_ssa.specs.declared.Op.TheVariants.{Mul, Refresh}
-use Rattle.mk_gadget.specs.Gadget.{Gadget}
 use Rattle.mk_gadget.specs.Pairs.{pairs}
 use Rattle.mk_gadget.specs.Product.{product_gadget, sum_place}
 use Rattle.mk_gadget.specs.Refresh.{refresh_gadget, refresh_sum}
@@ -17,9 +16,10 @@ use Rattle.mk_gadget.proofs.RefreshRun.{length-refresh, refresh_sum-below, all-d
 use Rattle.mk_gadget.proofs.ProductRows.{length-product, sum_place-inside, product-fits}
 use Rattle.mk_gadget.proofs.RefreshStrong.{refresh-strong}
 use Rattle.mk_gadget.proofs.ProductStrong.{product-strong}
+use Rattle.mk_rules.specs.Shape.{Shape, shape_of}
 use Rattle.mk_rules.specs.Claimed.{Claimed}
 use Rattle.mk_rules.specs.Accepts.{IsAccepted}
-use Rattle.mk_rules.specs.Privacy.{IsTemplate, HaveTemplates, HasElementImages}
+use Rattle.mk_rules.specs.Privacy.{IsTemplate, HaveTemplates}
 use Rattle.mk_rules.proofs.Operators.{IsGiven}
 use Rattle.mk_rules.proofs.Accepted.{accepted-private}
 
@@ -56,21 +56,21 @@ refresh-template field maps n =
           (λ i low high. omega (arith, refresh_sum-below n i n (length (pairs n)) (omega (arith, high)) (all-done n i (omega (arith, high))), length-refresh n));
     }
 
-module _ (code : Listing) where
+module _ (shape : Shape) where
   -- those of any blocks may stand for them
-  pub built_in-templates : (blocks : List Op) → HaveTemplates code (product_gadget (code.order + 1)) (refresh_gadget (code.order + 1)) blocks
+  pub built_in-templates : (blocks : List Op) → HaveTemplates shape (product_gadget (shape.order + 1)) (refresh_gadget (shape.order + 1)) blocks
   built_in-templates blocks = record {
-    of_product = λ left right held. product-template code.field code.maps (code.order + 1);
-    of_refresh = λ arg held. refresh-template code.field code.maps (code.order + 1);
+    of_product = λ left right held. product-template shape.field shape.maps (shape.order + 1);
+    of_refresh = λ arg held. refresh-template shape.field shape.maps (shape.order + 1);
   }
 
   -- and so may that of any operator
-  pub built_in-given : (op : Op) → IsGiven code (product_gadget (code.order + 1)) (refresh_gadget (code.order + 1)) op
-  built_in-given (Mul left right) strong = product-template code.field code.maps (code.order + 1)
-  built_in-given (Refresh arg) strong = refresh-template code.field code.maps (code.order + 1)
+  pub built_in-given : (op : Op) → IsGiven shape (product_gadget (shape.order + 1)) (refresh_gadget (shape.order + 1)) op
+  built_in-given (Mul left right) strong = product-template shape.field shape.maps (shape.order + 1)
+  built_in-given (Refresh arg) strong = refresh-template shape.field shape.maps (shape.order + 1)
   built_in-given _ strong = absurd (cc)
 
-  -- what the rule accepts with them is private
-  pub accepted_built_in-private : (cert : Claimed) → HasElementImages code → IsAccepted code cert → Private code
-  accepted_built_in-private cert images accepted =
-      accepted-private code (product_gadget (code.order + 1)) (refresh_gadget (code.order + 1)) cert images (built_in-templates cert.blocks) accepted
+-- what the rule accepts with them is private
+pub accepted_built_in-private : (code : Listing) (cert : Claimed) → HasElementImages code → IsAccepted code cert → Private code
+accepted_built_in-private code cert images accepted =
+    accepted-private code (product_gadget (code.order + 1)) (refresh_gadget (code.order + 1)) cert images (built_in-templates (shape_of code) cert.blocks) accepted

@@ -10,10 +10,11 @@ use Rattle.mk_code.specs.Listing.{Listing}
 use Rattle.mk_ssa.specs.declared.Op.{Op}
 use Rattle.mk_ssa.specs.declared.Operand.{Operand}
 use Rattle.mk_gadget.specs.Gadget.{Gadget}
+use Rattle.mk_rules.specs.Shape.{shape_of}
 use Rattle.mk_rules.specs.Tiles.{banks_of, value_number}
 use Rattle.mk_rules.specs.Wired.{IsSharedThere, Wired}
-use Rattle.mk_rules.specs.Accepts.{Outputs}
-use Rattle.mk_rules.specs.Places.{IsClaimed, FirstWrongOutput}
+use Rattle.mk_rules.specs.Accepts.{AreOutputs, Outputs}
+use Rattle.mk_rules.specs.Faults.{IsClaimed, FirstWrongOutput}
 use Rattle.mk_rules.proofs.Operators.{IsGiven}
 use Rattle.mk_rules.proofs.Laid.{bank-long}
 
@@ -61,30 +62,30 @@ pub length-parted : {X : Type 0} (n : ℕ) (f : X → List ℕ) (P : X → Type 
 length-parted n f P [] all size = omega arith
 length-parted n f P (x ∷ xs) all size = omega (arith, length-append (f x) (flat_map f xs), size x all.0, length-parted n f P xs all.1 size)
 
-module _ (code : Listing) (product refresh : Gadget) (blocks : List Op) (claims : List Operand) where
-  -- where each claim is that of its output, and no output is left, the outputs are claimed
-  pub Outputs-from : length code.outs ≤ length claims * (code.order + 1)
-      → ((k : ℕ) → k < length claims → IsClaimed code product refresh blocks claims k) → Outputs code product refresh blocks claims
-  Outputs-from short at =
-      let both = joined (code.order + 1) (λ (v : Operand). slice_index_or (banks_of code product refresh blocks) (value_number code v) [])
-      (IsSharedThere code blocks) claims code.outs short (λ k below. (at k below).claim) in
-      record { there = All-from_recursion (IsSharedThere code blocks) claims both.0; outs = both.1 }
+-- where each claim is that of its output, and no output is left, the outputs are claimed
+pub Outputs-from : (code : Listing) (banks : List (List ℕ)) (blocks : List Op) (claims : List Operand) → length code.outs ≤ length claims * (code.order + 1)
+    → ((k : ℕ) → k < length claims → IsClaimed code banks blocks claims k) → AreOutputs code banks blocks claims
+Outputs-from code banks blocks claims short at =
+    let both = joined (code.order + 1) (λ (v : Operand). slice_index_or banks (value_number (shape_of code) v) [])
+    (IsSharedThere (shape_of code) blocks) claims code.outs short (λ k below. (at k below).claim) in
+    record { there = All-from_recursion (IsSharedThere (shape_of code) blocks) claims both.0; outs = both.1 }
 
+module _ (code : Listing) (product refresh : Gadget) (blocks : List Op) (claims : List Operand) where
   -- no first one is wrong where the blocks are wired and the outputs are claimed
-  pub FirstWrongOutput-not : ((op : Op) → IsGiven code product refresh op) → Wired code blocks → (k : ℕ) → FirstWrongOutput code product refresh blocks claims k
+  pub FirstWrongOutput-not : ((op : Op) → IsGiven (shape_of code) product refresh op) → Wired (shape_of code) blocks → (k : ℕ) → FirstWrongOutput code (banks_of (shape_of code) product refresh blocks) blocks claims k
       → Outputs code product refresh blocks claims → ⊥
   FirstWrongOutput-not given wired k first outputs =
       let n : ℕ = code.order + 1 in
-      let bank : Operand → List ℕ = λ v. slice_index_or (banks_of code product refresh blocks) (value_number code v) [] in
-      let all : AllByRecursion (IsSharedThere code blocks) claims = recursion_from_All (IsSharedThere code blocks) claims outputs.there in
-      let size : (v : Operand) → IsSharedThere code blocks v → length (bank v) ≡ n = λ v there.
-      bank-long code product refresh blocks v wired given there in
-      let count : length code.outs ≡ length claims * n = ap length outputs.outs ∙ length-parted n bank (IsSharedThere code blocks) claims all size in
-      let claimed : k < length claims → IsClaimed code product refresh blocks claims k = λ below. record {
+      let bank : Operand → List ℕ = λ v. slice_index_or (banks_of (shape_of code) product refresh blocks) (value_number (shape_of code) v) [] in
+      let all : AllByRecursion (IsSharedThere (shape_of code) blocks) claims = recursion_from_All (IsSharedThere (shape_of code) blocks) claims outputs.there in
+      let size : (v : Operand) → IsSharedThere (shape_of code) blocks v → length (bank v) ≡ n = λ v there.
+      bank-long (shape_of code) product refresh blocks v wired given there in
+      let count : length code.outs ≡ length claims * n = ap length outputs.outs ∙ length-parted n bank (IsSharedThere (shape_of code) blocks) claims all size in
+      let claimed : k < length claims → IsClaimed code (banks_of (shape_of code) product refresh blocks) blocks claims k = λ below. record {
         output = omega (arith, count, mul-le-mul_right n below);
         claim =
-            subst (λ (l : List ℕ). IsSomeAnd (slice_get claims k) (λ v. IsSharedThere code blocks v × (bank v ≡ take n (drop (k * n) l)))) (sym outputs.outs)
-            (parted n bank (IsSharedThere code blocks) claims all size k below);
+            subst (λ (l : List ℕ). IsSomeAnd (slice_get claims k) (λ v. IsSharedThere (shape_of code) blocks v × (bank v ≡ take n (drop (k * n) l)))) (sym outputs.outs)
+            (parted n bank (IsSharedThere (shape_of code) blocks) claims all size k below);
       } in
       elim first.more [
         | inl below ↦ first.fails (claimed below)

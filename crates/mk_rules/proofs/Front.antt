@@ -10,7 +10,7 @@ use Rattle.std.proofs.Math.Nat.{mul-le-mul_right}
 use Rattle.mk_field.specs.Field.{size}
 use Rattle.mk_field.specs.Sharing.{encodings}
 use Rattle.mk_code.specs.declared.instr.Instr.{Instr}
-use Rattle.mk_code.specs.Listing.{Listing}
+use Rattle.mk_code.specs.Listing.{Listing, AreElementMaps}
 use Rattle.mk_code.specs.Trace.{run, randoms, trace}
 use Rattle.mk_code.specs.Counting.{total, one_if_equal, AllBelow, Elements}
 use Rattle.mk_code.specs.Private.{observation, spent, masked_trace, ways, Private}
@@ -18,20 +18,20 @@ use Rattle.mk_code.specs.Shares.{AgreeBut, LooksPast}
 use Rattle.mk_code.proofs.Totals.{total-same, total-split, Elements-append}
 use Rattle.mk_code.proofs.Encodings.{EncodingsLaw-holds}
 use Rattle.mk_code.proofs.LeftOut.{IsLeftOut, left_out}
-use Rattle.mk_gadget.proofs.AddTemplate.{AllBelow-range}
+use Rattle.mk_gadget.proofs.Ranges.{AllBelow-range}
+use Rattle.mk_rules.specs.Shape.{Shape, shape_of}
 use Rattle.mk_rules.specs.Tiles.{input_banks, first_place}
 use Rattle.mk_rules.proofs.Probes.{Contains-none, Contains-cases, inside, inside-held, inside-behind, behind-few}
 use Rattle.mk_rules.proofs.Blocks.{Block, only, need, AllAskFew}
 use Rattle.mk_rules.proofs.Needs.{need-few, need-below}
-use Rattle.mk_rules.proofs.Values.{AreElementMaps}
 use Rattle.mk_rules.proofs.Standing.{bank, blocks_laid, places_of, AllBlocks, AllBlocks-few, AllSingle, AreBanks}
 use Rattle.mk_rules.proofs.Agreeing.{Agree}
 use Rattle.mk_rules.proofs.Suffix.{blocks-even}
 
 -- the secrets are shared, the public inputs public
-pub record AreInputs (code : Listing) (known : ℕ → Bool) : Type 0 where
-  pub secrets : (x : ℕ) → x < code.secrets → known x ≡ false
-  pub publics : (x : ℕ) → code.secrets ≤ x → x < code.secrets + code.publics → known x ≡ true
+pub record AreInputs (shape : Shape) (known : ℕ → Bool) : Type 0 where
+  pub secrets : (x : ℕ) → x < shape.secrets → known x ≡ false
+  pub publics : (x : ℕ) → shape.secrets ≤ x → x < shape.secrets + shape.publics → known x ≡ true
 
 -- a number that a list leaves out is none of its numbers
 left_out-held : (f : ℕ) (xs : List ℕ) (y : ℕ) → IsLeftOut f xs → Contains xs y → y ≢ f
@@ -43,58 +43,58 @@ left_out-held f (x ∷ xs) y out held = elim (Contains-cases x xs y held) [
 ]
 
 -- the bank of a secret
-pub secret-bank : (code : Listing) (x : ℕ) → x < code.secrets → bank (input_banks code) x ≡ range_with_len (x * (code.order + 1)) (code.order + 1)
-secret-bank code x below =
-    let n : ℕ = code.order + 1 in
-    let fronts : List (List ℕ) = map (λ k. range_with_len (k * n) n) (range_with_len 0 code.secrets) in
-    let backs : List (List ℕ) = map (λ k. (code.secrets * n + k) ∷ []) (range_with_len 0 code.publics) in
-    let count : length fronts ≡ code.secrets = length-map-range_with_len (λ k. range_with_len (k * n) n) 0 code.secrets in
+pub secret-bank : (shape : Shape) (x : ℕ) → x < shape.secrets → bank (input_banks shape) x ≡ range_with_len (x * (shape.order + 1)) (shape.order + 1)
+secret-bank shape x below =
+    let n : ℕ = shape.order + 1 in
+    let fronts : List (List ℕ) = map (λ k. range_with_len (k * n) n) (range_with_len 0 shape.secrets) in
+    let backs : List (List ℕ) = map (λ k. (shape.secrets * n + k) ∷ []) (range_with_len 0 shape.publics) in
+    let count : length fronts ≡ shape.secrets = length-map-range_with_len (λ k. range_with_len (k * n) n) 0 shape.secrets in
     get_or_append_left fronts backs [] x (omega (arith, count, below))
-    ∙ get_or-map-range_with_len (λ k. range_with_len (k * n) n) 0 code.secrets x x [] below (omega arith)
+    ∙ get_or-map-range_with_len (λ k. range_with_len (k * n) n) 0 shape.secrets x x [] below (omega arith)
 
 -- the bank of a public input
-pub public-bank : (code : Listing) (x : ℕ) → code.secrets ≤ x → x < code.secrets + code.publics
-    → bank (input_banks code) x ≡ (code.secrets * (code.order + 1) + (x - code.secrets)) ∷ []
-public-bank code x late below =
-    let n : ℕ = code.order + 1 in
-    let fronts : List (List ℕ) = map (λ k. range_with_len (k * n) n) (range_with_len 0 code.secrets) in
-    let backs : List (List ℕ) = map (λ k. (code.secrets * n + k) ∷ []) (range_with_len 0 code.publics) in
-    let count : length fronts ≡ code.secrets = length-map-range_with_len (λ k. range_with_len (k * n) n) 0 code.secrets in
-    get_or-append_right fronts backs code.secrets x [] count late
-    ∙ get_or-map-range_with_len (λ k. (code.secrets * n + k) ∷ []) 0 code.publics (x - code.secrets) (x - code.secrets) [] (omega arith) (omega arith)
+pub public-bank : (shape : Shape) (x : ℕ) → shape.secrets ≤ x → x < shape.secrets + shape.publics
+    → bank (input_banks shape) x ≡ (shape.secrets * (shape.order + 1) + (x - shape.secrets)) ∷ []
+public-bank shape x late below =
+    let n : ℕ = shape.order + 1 in
+    let fronts : List (List ℕ) = map (λ k. range_with_len (k * n) n) (range_with_len 0 shape.secrets) in
+    let backs : List (List ℕ) = map (λ k. (shape.secrets * n + k) ∷ []) (range_with_len 0 shape.publics) in
+    let count : length fronts ≡ shape.secrets = length-map-range_with_len (λ k. range_with_len (k * n) n) 0 shape.secrets in
+    get_or-append_right fronts backs shape.secrets x [] count late
+    ∙ get_or-map-range_with_len (λ k. (shape.secrets * n + k) ∷ []) 0 shape.publics (x - shape.secrets) (x - shape.secrets) [] (omega arith) (omega arith)
 
 -- the shares of a secret stand before the end of the secrets' shares
-secret-end : (code : Listing) (x : ℕ) → x < code.secrets → x * (code.order + 1) + (code.order + 1) ≤ code.secrets * (code.order + 1)
-secret-end code x below =
-    let step : suc x * (code.order + 1) ≤ code.secrets * (code.order + 1) = mul-le-mul_right (code.order + 1) below in
+secret-end : (shape : Shape) (x : ℕ) → x < shape.secrets → x * (shape.order + 1) + (shape.order + 1) ≤ shape.secrets * (shape.order + 1)
+secret-end shape x below =
+    let step : suc x * (shape.order + 1) ≤ shape.secrets * (shape.order + 1) = mul-le-mul_right (shape.order + 1) below in
     omega (arith, step)
 
 -- the banks of the inputs
-pub input-banks : (code : Listing) (known : ℕ → Bool) → AreInputs code known
-    → AreBanks (code.order + 1) known (code.secrets + code.publics) (first_place code) (input_banks code)
+pub input-banks : (shape : Shape) (known : ℕ → Bool) → AreInputs shape known
+    → AreBanks (shape.order + 1) known (shape.secrets + shape.publics) (first_place shape) (input_banks shape)
 unfolding AllBelow
-input-banks code known inputs =
-    let n : ℕ = code.order + 1 in
-    let fronts : List (List ℕ) = map (λ k. range_with_len (k * n) n) (range_with_len 0 code.secrets) in
-    let backs : List (List ℕ) = map (λ k. (code.secrets * n + k) ∷ []) (range_with_len 0 code.publics) in
+input-banks shape known inputs =
+    let n : ℕ = shape.order + 1 in
+    let fronts : List (List ℕ) = map (λ k. range_with_len (k * n) n) (range_with_len 0 shape.secrets) in
+    let backs : List (List ℕ) = map (λ k. (shape.secrets * n + k) ∷ []) (range_with_len 0 shape.publics) in
     record {
       count = omega (
         arith,
         length-append fronts backs,
-        length-map-range_with_len (λ k. range_with_len (k * n) n) 0 code.secrets,
-        length-map-range_with_len (λ k. (code.secrets * n + k) ∷ []) 0 code.publics,
+        length-map-range_with_len (λ k. range_with_len (k * n) n) 0 shape.secrets,
+        length-map-range_with_len (λ k. (shape.secrets * n + k) ∷ []) 0 shape.publics,
       );
-      long = λ x below. elim (cases_lt x code.secrets) [
+      long = λ x below. elim (cases_lt x shape.secrets) [
         | inl secret ↦
-            ap length (secret-bank code x secret) ∙ length-range_with_len (x * n) n ∙ ap (places_of n) (sym (inputs.secrets x secret))
-        | inr late ↦ ap length (public-bank code x late below) ∙ ap (places_of n) (sym (inputs.publics x late below))
+            ap length (secret-bank shape x secret) ∙ length-range_with_len (x * n) n ∙ ap (places_of n) (sym (inputs.secrets x secret))
+        | inr late ↦ ap length (public-bank shape x late below) ∙ ap (places_of n) (sym (inputs.publics x late below))
       ];
-      below = λ x below. elim (cases_lt x code.secrets) [
+      below = λ x below. elim (cases_lt x shape.secrets) [
         | inl secret ↦
-            subst (AllBelow (first_place code)) (sym (secret-bank code x secret))
-            (AllBelow-range (first_place code) (x * n) n (omega (arith, secret-end code x secret)))
+            subst (AllBelow (first_place shape)) (sym (secret-bank shape x secret))
+            (AllBelow-range (first_place shape) (x * n) n (omega (arith, secret-end shape x secret)))
         | inr late ↦
-            subst (AllBelow (first_place code)) (sym (public-bank code x late below)) (omega arith, tt)
+            subst (AllBelow (first_place shape)) (sym (public-bank shape x late below)) (omega arith, tt)
       ];
     }
 
@@ -115,8 +115,8 @@ ways-parts code publics secrets probes seen =
     ∙ ap (f a) (drop_at a t (spent code) here.count)))
 
 module _ (code : Listing) (known : ℕ → Bool) (bs : List Block) (publics probes seen : List ℕ)
-    (images : AreElementMaps code.field code.maps) (inputs : AreInputs code known)
-    (made : code.instrs ≡ blocks_laid (input_banks code) (first_place code) bs)
+    (images : AreElementMaps code.field code.maps) (inputs : AreInputs (shape_of code) known)
+    (made : code.instrs ≡ blocks_laid (input_banks (shape_of code)) (first_place (shape_of code)) bs)
     (all : AllBlocks code.field code.maps (code.order + 1) known (code.secrets + code.publics) bs)
     (single : AllSingle (code.secrets + code.publics) bs)
     (given : Elements (size code.field) code.publics publics) (few : length probes ≤ code.order) where
@@ -124,7 +124,7 @@ module _ (code : Listing) (known : ℕ → Bool) (bs : List Block) (publics prob
   abbrev touched : ℕ → List ℕ
   touched x =
       inside (x * (code.order + 1)) (code.order + 1) probes
-      ++ need probes (only x) (first_place code) (code.secrets + code.publics) bs
+      ++ need probes (only x) (first_place (shape_of code)) (code.secrets + code.publics) bs
 
   -- the blocks ask for few shares
   asking : AllAskFew (code.order + 1) bs
@@ -134,12 +134,12 @@ module _ (code : Listing) (known : ℕ → Bool) (bs : List Block) (publics prob
   touched-few : (x : ℕ) → x < code.secrets → length (touched x) < suc code.order
   touched-few x below =
       let n : ℕ = code.order + 1 in
-      let wanted : List ℕ = need probes (only x) (first_place code) (code.secrets + code.publics) bs in
+      let wanted : List ℕ = need probes (only x) (first_place (shape_of code)) (code.secrets + code.publics) bs in
       omega (
         arith,
         length-append (inside (x * n) n probes) wanted,
-        need-few n probes (only x) (first_place code) (code.secrets + code.publics) bs asking,
-        inside-behind (x * n) n (first_place code) probes (omega (arith, secret-end code x below)),
+        need-few n probes (only x) (first_place (shape_of code)) (code.secrets + code.publics) bs asking,
+        inside-behind (x * n) n (first_place (shape_of code)) probes (omega (arith, secret-end (shape_of code) x below)),
         behind-few (x * n) probes,
       )
 
@@ -155,15 +155,15 @@ module _ (code : Listing) (known : ℕ → Bool) (bs : List Block) (publics prob
   -- shares that are equal but for the hidden ones, behind the same publics, agree in front of the blocks
   agree-front : (u w : List ℕ) → length u ≡ code.secrets * (code.order + 1) → length w ≡ code.secrets * (code.order + 1)
       → AgreeBut code.order code.secrets (λ x. (hidden x).0) u w
-      → Agree known probes (code.secrets + code.publics) (first_place code) (input_banks code) bs (u ++ publics) (w ++ publics)
+      → Agree known probes (code.secrets + code.publics) (first_place (shape_of code)) (input_banks (shape_of code)) bs (u ++ publics) (w ++ publics)
   agree-front u w left right but =
       let n : ℕ = code.order + 1 in
       let end : ℕ = code.secrets * n in
-      let wanted : ℕ → List ℕ = λ x. need probes (only x) (first_place code) (code.secrets + code.publics) bs in
+      let wanted : ℕ → List ℕ = λ x. need probes (only x) (first_place (shape_of code)) (code.secrets + code.publics) bs in
       let share : (x j : ℕ) → x < code.secrets → j < n → Contains (touched x) j
       → slice_index (u ++ publics) (x * n + j) ≡ slice_index (w ++ publics) (x * n + j) =
       λ x j below small held.
-      let place : x * n + j < end = omega (arith, secret-end code x below) in
+      let place : x * n + j < end = omega (arith, secret-end (shape_of code) x below) in
       get_or_append_left u publics 0 (x * n + j) (omega (arith, place, left))
       ∙ but.shares x j below (omega arith) (left_out-held (hidden x).0 (touched x) j ((hidden x).2 below) held)
       ∙ sym (get_or_append_left w publics 0 (x * n + j) (omega (arith, place, right))) in
@@ -189,14 +189,14 @@ module _ (code : Listing) (known : ℕ → Bool) (bs : List Block) (publics prob
         publics = λ x below public. elim (cases_lt x code.secrets) [
           | inl secret ↦ absurd (both_ways (known x) (inputs.secrets x secret) public)
           | inr late ↦
-              let at : slice_index (bank (input_banks code) x) 0 ≡ end + (x - code.secrets) = ap (λ (l : List ℕ). slice_index l 0) (public-bank code x late below) in
-              behind_shares (slice_index (bank (input_banks code) x) 0) (omega (arith, at))
+              let at : slice_index (bank (input_banks (shape_of code)) x) 0 ≡ end + (x - code.secrets) = ap (λ (l : List ℕ). slice_index l 0) (public-bank (shape_of code) x late below) in
+              behind_shares (slice_index (bank (input_banks (shape_of code)) x) 0) (omega (arith, at))
         ];
         needed = λ x i below shared held. elim (cases_lt x code.secrets) [
           | inl secret ↦
-              let small : i < n = need-below n probes (only x) (first_place code) (code.secrets + code.publics) bs i asking held in
-              let at : slice_index (bank (input_banks code) x) i ≡ x * n + i =
-              ap (λ (l : List ℕ). slice_index l i) (secret-bank code x secret) ∙ get_or-range_with_len (x * n) n i 0 small in
+              let small : i < n = need-below n probes (only x) (first_place (shape_of code)) (code.secrets + code.publics) bs i asking held in
+              let at : slice_index (bank (input_banks (shape_of code)) x) i ≡ x * n + i =
+              ap (λ (l : List ℕ). slice_index l i) (secret-bank (shape_of code) x secret) ∙ get_or-range_with_len (x * n) n i 0 small in
               subst (λ (r : ℕ). slice_index (u ++ publics) r ≡ slice_index (w ++ publics) r) (sym at)
               (share x i secret small (Contains-append_right (inside (x * n) n probes) (wanted x) i held))
           | inr late ↦ absurd (both_ways (known x) shared (inputs.publics x late below))
@@ -212,10 +212,10 @@ module _ (code : Listing) (known : ℕ → Bool) (bs : List Block) (publics prob
         let q : ℕ = size code.field in
         subst (λ (is : List Instr). total q (randoms is) (λ t. one_if_equal (observation probes (run code.field code.maps is t (u ++ publics))) seen)
         ≡ total q (randoms is) (λ t. one_if_equal (observation probes (run code.field code.maps is t (w ++ publics))) seen)) (sym made)
-        (blocks-even code.field code.maps n known probes (λ o. one_if_equal o seen) (code.secrets + code.publics) (first_place code) (input_banks code) bs
-        (u ++ publics) (w ++ publics) images (input-banks code known inputs) all single
+        (blocks-even code.field code.maps n known probes (λ o. one_if_equal o seen) (code.secrets + code.publics) (first_place (shape_of code)) (input_banks (shape_of code)) bs
+        (u ++ publics) (w ++ publics) images (input-banks (shape_of code) known inputs) all single
         (Elements-append q (code.secrets * n) code.publics u publics here given) (Elements-append q (code.secrets * n) code.publics w publics there given)
-        (omega (arith, few, behind-few (first_place code) probes))
+        (omega (arith, few, behind-few (first_place (shape_of code)) probes))
         (agree-front u w here.count there.count but));
   }
 
@@ -231,8 +231,8 @@ module _ (code : Listing) (known : ℕ → Bool) (bs : List Block) (publics prob
 
 -- code that is made of such blocks is private
 pub blocks-private : (code : Listing) (known : ℕ → Bool) (bs : List Block)
-    → AreElementMaps code.field code.maps → AreInputs code known
-    → code.instrs ≡ blocks_laid (input_banks code) (first_place code) bs
+    → AreElementMaps code.field code.maps → AreInputs (shape_of code) known
+    → code.instrs ≡ blocks_laid (input_banks (shape_of code)) (first_place (shape_of code)) bs
     → AllBlocks code.field code.maps (code.order + 1) known (code.secrets + code.publics) bs
     → AllSingle (code.secrets + code.publics) bs
     → Private code

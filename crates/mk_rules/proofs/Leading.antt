@@ -1,13 +1,12 @@
 -- Whether a value leads to another one through linear blocks, as a function over the blocks from behind: it
 -- is what marks hold that are passed back from block to block, and it agrees with paths.
-use Rattle.std.proofs.Common.{◌≡◌, ℕ, zero, suc, ◌+◌, ◌-◌, ◌<◌, ◌≤◌, Bool, true, false, List, [], ◌∷◌, slice_get, Option, Some, None, IsSomeAnd, nat_eq, if◌then◌else◌, sym, ◌∙◌, ap, refl, subst, arith, inl, inr}
+use Rattle.std.proofs.Common.{◌≡◌, ℕ, suc, ◌+◌, ◌-◌, ◌<◌, ◌≤◌, Bool, true, false, List, [], ◌∷◌, slice_get, Option, Some, None, IsSomeAnd, nat_eq, if◌then◌else◌, sym, ◌∙◌, ap, refl, subst, arith, inl, inr}
 use Rattle.std.specs.List.{Contains}
 use Rattle.std.proofs.lemmas.Bool.{cases_Bool, cases_lt, eqb-true, eq-eqb, ne_eqb, cond-true, cond-false}
-use Rattle.std.proofs.lemmas.Option.{same_Some, slice_get_past, slice_get-get_or, slice_get_within}
-use Rattle.std.proofs.lemmas.List.{length-take-le}
+use Rattle.std.proofs.lemmas.Option.{same_Some, slice_get_past, slice_get-get_or}
 use Rattle.mk_ssa.specs.Kinds.{Kind, Linear, Strong}
+use Rattle.mk_ssa.proofs.Lists.{IsSomeAnd-value}
 use Rattle.mk_rules.specs.Reaches.{Link, IsPath, Reaches}
-use Rattle.mk_rules.proofs.Places.{IsSomeAnd-value}
 use Rattle.mk_rules.proofs.Blocks.{IsHit, any_marked, only, passed_on, any_marked-from, any_marked-at}
 use Rattle.mk_rules.proofs.Needs.{carries-from, carries-at}
 use Rattle.mk_rules.proofs.Views.{Contains-at}
@@ -181,6 +180,7 @@ module _ (inputs : ℕ) (links : List Link) where
         (λ i. let e : 0 + i ≡ i = omega arith in ap (slice_get links) e) (from-start reaches.path) reaches.leads in
         subst (λ (x : ℕ). leads inputs links x v ≡ true) same led
 
+  -- a value that leads to a place of a strong block reaches it
   pub Reaches-from : (v s k w : ℕ) (l : Link) → slice_get links s ≡ Some l → l.kind ≡ Strong → slice_get l.shared k ≡ Some w
       → leads inputs links w v ≡ true → Reaches inputs links v s k
   Reaches-from v s k w l there strong at on =

@@ -1,4 +1,7 @@
-pub mod Places
+pub mod RowBits
+pub mod Pairing
+pub mod Wired
+pub mod Faults
 pub mod Claims
 pub mod Examples
 pub mod Prices

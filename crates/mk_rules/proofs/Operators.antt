@@ -1,7 +1,7 @@
 -- The operators as blocks: their templates fit, their operands are of their kind, and what is seen of them
 -- depends on what they ask for.
 use Rattle.std.proofs.Common.{◌≡◌, ℕ, zero, suc, ◌+◌, ◌-◌, ◌*◌, ◌<◌, ◌≤◌, List, [], ◌∷◌, length, map, replicate, nat_eq, if◌then◌else◌, sym, refl, subst, arith, inl, inr}
-use Rattle.std.specs.List.{range_with_len, Contains}
+use Rattle.std.specs.List.{range_with_len, Contains, AllByRecursion}
 use Rattle.std.proofs.lemmas.List.{length-replicate}
 use Rattle.std.proofs.lemmas.List.FromFn.{length-range_with_len, length-map-range_with_len}
 use Rattle.std.proofs.Math.Dec.{eqb-suc-zero}
@@ -9,16 +9,17 @@ use Rattle.mk_field.specs.declared.field.FieldId.{FieldId}
 use Rattle.mk_field.specs.declared.map.AddMap.{AddMap}
 use Rattle.mk_code.specs.declared.instr.Instr.{Instr}
 use Rattle.mk_code.specs.declared.instr.Instr.TheVariants as instr
-use Rattle.mk_code.specs.Listing.{Listing, FitsAt, AllFit}
+use Rattle.mk_code.specs.Listing.{FitsAt, AllFit}
 use Rattle.mk_code.specs.Counting.{AllBelow}
-use Rattle.mk_code.proofs.Steps.{zero-element}
+use Rattle.mk_field.proofs.Sum.{zero-element}
 use Rattle.mk_ssa.specs.declared.Operand.{Operand}
 use Rattle.mk_ssa.specs.declared.Op.{Op}
 use Rattle.mk_ssa.specs.declared.Op.TheVariants.{Const, PubAdd, PubMul, PubSq, PubMap, Lift, Add, AddPub, Scale, Sq, Map, Mul, Refresh}
 use Rattle.mk_ssa.specs.Kinds.{Public, Strong, kind, is_public, shared_operands, public_operands}
 use Rattle.mk_gadget.specs.Gadget.{Gadget}
 use Rattle.mk_gadget.specs.Template.{single, rows, lift, template}
-use Rattle.mk_gadget.proofs.AddTemplate.{AllBelow-range}
+use Rattle.mk_gadget.proofs.Ranges.{AllBelow-range}
+use Rattle.mk_rules.specs.Shape.{Shape}
 use Rattle.mk_rules.specs.Tiles.{value_number}
 use Rattle.mk_rules.specs.Wired.{IsSharedThere, IsPublicThere, IsWired}
 use Rattle.mk_rules.specs.Privacy.{IsTemplate}
@@ -106,48 +107,48 @@ abbrev pub places_behind : ℕ → Op → ℕ
 places_behind n op = n * length (shared_operands op) + length (public_operands op)
 
 -- an operator that is strong has a gadget that may stand for it
-abbrev pub IsGiven : Listing → Gadget → Gadget → Op → Type 0
-IsGiven code product refresh op =
-    kind op ≡ Strong → IsTemplate code.field code.maps (code.order + 1) (length (shared_operands op)) (template (code.order + 1) product refresh op)
+abbrev pub IsGiven : Shape → Gadget → Gadget → Op → Type 0
+IsGiven shape product refresh op =
+    kind op ≡ Strong → IsTemplate shape.field shape.maps (shape.order + 1) (length (shared_operands op)) (template (shape.order + 1) product refresh op)
 
-module _ (code : Listing) (product refresh : Gadget) where
+module _ (shape : Shape) (product refresh : Gadget) where
   -- the template of a wired operator fits behind its operands
-  pub template-behind : (before : List Op) (op : Op) → IsWired code before op → IsGiven code product refresh op
-      → FitsBehind code.field code.maps (places_behind (code.order + 1) op) (places_of (code.order + 1) (is_known (kind op))) (template (code.order + 1) product refresh op)
+  pub template-behind : (before : List Op) (op : Op) → IsWired shape before op → IsGiven shape product refresh op
+      → FitsBehind shape.field shape.maps (places_behind (shape.order + 1) op) (places_of (shape.order + 1) (is_known (kind op))) (template (shape.order + 1) product refresh op)
   template-behind before (Const value) wired given =
-      single-behind code.field code.maps 0 (places_behind (code.order + 1) (Const value)) (instr.Const value) (omega arith) wired
+      single-behind shape.field shape.maps 0 (places_behind (shape.order + 1) (Const value)) (instr.Const value) (omega arith) wired
   template-behind before (PubAdd left right) wired given =
-      single-behind code.field code.maps 2 (places_behind (code.order + 1) (PubAdd left right)) (instr.Add 0 1) (omega arith) (omega arith, omega arith)
+      single-behind shape.field shape.maps 2 (places_behind (shape.order + 1) (PubAdd left right)) (instr.Add 0 1) (omega arith) (omega arith, omega arith)
   template-behind before (PubMul left right) wired given =
-      single-behind code.field code.maps 2 (places_behind (code.order + 1) (PubMul left right)) (instr.Mul 0 1) (omega arith) (omega arith, omega arith)
+      single-behind shape.field shape.maps 2 (places_behind (shape.order + 1) (PubMul left right)) (instr.Mul 0 1) (omega arith) (omega arith, omega arith)
   template-behind before (PubSq arg) wired given =
-      single-behind code.field code.maps 1 (places_behind (code.order + 1) (PubSq arg)) (instr.Sq 0) (omega arith) (omega arith)
+      single-behind shape.field shape.maps 1 (places_behind (shape.order + 1) (PubSq arg)) (instr.Sq 0) (omega arith) (omega arith)
   template-behind before (PubMap k arg) wired given =
-      single-behind code.field code.maps 1 (places_behind (code.order + 1) (PubMap k arg)) (instr.Map k 0) (omega arith) (wired.0, omega arith)
+      single-behind shape.field shape.maps 1 (places_behind (shape.order + 1) (PubMap k arg)) (instr.Map k 0) (omega arith) (wired.0, omega arith)
   template-behind before (Lift arg) wired given =
-      lift-behind code.field code.maps (code.order + 1) (places_behind (code.order + 1) (Lift arg)) (omega arith) (omega arith)
+      lift-behind shape.field shape.maps (shape.order + 1) (places_behind (shape.order + 1) (Lift arg)) (omega arith) (omega arith)
   template-behind before (Add left right) wired given =
-      let n : ℕ = code.order + 1 in
-      rows-behind code.field code.maps n (2 * n) (places_behind n (Add left right)) (λ i. instr.Add i (n + i)) (omega arith)
+      let n : ℕ = shape.order + 1 in
+      rows-behind shape.field shape.maps n (2 * n) (places_behind n (Add left right)) (λ i. instr.Add i (n + i)) (omega arith)
       (λ i below. (omega (arith, below), omega (arith, below)))
   template-behind before (AddPub left right) wired given =
-      let n : ℕ = code.order + 1 in
-      rows-behind code.field code.maps n (n + 1) (places_behind n (AddPub left right)) (λ i. if nat_eq i 0 then instr.Add 0 n else instr.Copy i) (omega arith)
-      (λ i below. public_addition-row code.field (length code.maps) n i below)
+      let n : ℕ = shape.order + 1 in
+      rows-behind shape.field shape.maps n (n + 1) (places_behind n (AddPub left right)) (λ i. if nat_eq i 0 then instr.Add 0 n else instr.Copy i) (omega arith)
+      (λ i below. public_addition-row shape.field (length shape.maps) n i below)
   template-behind before (Scale left right) wired given =
-      let n : ℕ = code.order + 1 in
-      rows-behind code.field code.maps n (n + 1) (places_behind n (Scale left right)) (λ i. instr.Mul i n) (omega arith)
+      let n : ℕ = shape.order + 1 in
+      rows-behind shape.field shape.maps n (n + 1) (places_behind n (Scale left right)) (λ i. instr.Mul i n) (omega arith)
       (λ i below. (omega (arith, below), omega arith))
   template-behind before (Sq arg) wired given =
-      let n : ℕ = code.order + 1 in
-      rows-behind code.field code.maps n n (places_behind n (Sq arg)) (λ i. instr.Sq i) (omega arith) (λ i below. below)
+      let n : ℕ = shape.order + 1 in
+      rows-behind shape.field shape.maps n n (places_behind n (Sq arg)) (λ i. instr.Sq i) (omega arith) (λ i below. below)
   template-behind before (Map k arg) wired given =
-      let n : ℕ = code.order + 1 in
-      rows-behind code.field code.maps n n (places_behind n (Map k arg)) (λ i. instr.Map k i) (omega arith) (λ i below. (wired.0, below))
+      let n : ℕ = shape.order + 1 in
+      rows-behind shape.field shape.maps n n (places_behind n (Map k arg)) (λ i. instr.Map k i) (omega arith) (λ i below. (wired.0, below))
   template-behind before (Mul left right) wired given =
-      given-behind code.field code.maps (code.order + 1) 2 (places_behind (code.order + 1) (Mul left right)) product (omega arith) (given refl)
+      given-behind shape.field shape.maps (shape.order + 1) 2 (places_behind (shape.order + 1) (Mul left right)) product (omega arith) (given refl)
   template-behind before (Refresh arg) wired given =
-      given-behind code.field code.maps (code.order + 1) 1 (places_behind (code.order + 1) (Refresh arg)) refresh (omega arith) (given refl)
+      given-behind shape.field shape.maps (shape.order + 1) 1 (places_behind (shape.order + 1) (Refresh arg)) refresh (omega arith) (given refl)
 
 -- of strong operators none has a public operand
 pub strong-publics : (op : Op) → kind op ≡ Strong → public_operands op ≡ []
@@ -176,35 +177,28 @@ pub public-known : (op : Op) → is_public op ≡ is_known (kind op)
 public-known (Const value) = refl
 public-known _ = refl
 
--- each of some operands
-unfoldable pub Each : (Operand → Type 0) → List Operand → Type 0
-Each P [] = Unit {0}
-Each P (v ∷ vs) = P v × Each P vs
-
 -- the operands of a wired operator are there
-pub wired-operands : (code : Listing) (before : List Op) (op : Op) → IsWired code before op
-    → Each (IsSharedThere code before) (shared_operands op) × Each (IsPublicThere code before) (public_operands op)
-unfolding Each
-wired-operands code before (Const value) wired = (tt, tt)
-wired-operands code before (PubAdd left right) wired = (tt, (wired.0, (wired.1, tt)))
-wired-operands code before (PubMul left right) wired = (tt, (wired.0, (wired.1, tt)))
-wired-operands code before (PubSq arg) wired = (tt, (wired, tt))
-wired-operands code before (PubMap k arg) wired = (tt, (wired.1, tt))
-wired-operands code before (Lift arg) wired = (tt, (wired, tt))
-wired-operands code before (Add left right) wired = ((wired.0, (wired.1, tt)), tt)
-wired-operands code before (AddPub left right) wired = ((wired.0, tt), (wired.1, tt))
-wired-operands code before (Scale left right) wired = ((wired.0, tt), (wired.1, tt))
-wired-operands code before (Sq arg) wired = ((wired, tt), tt)
-wired-operands code before (Map k arg) wired = ((wired.1, tt), tt)
-wired-operands code before (Mul left right) wired = ((wired.0, (wired.1, tt)), tt)
-wired-operands code before (Refresh arg) wired = ((wired, tt), tt)
+pub wired-operands : (shape : Shape) (before : List Op) (op : Op) → IsWired shape before op
+    → AllByRecursion (IsSharedThere shape before) (shared_operands op) × AllByRecursion (IsPublicThere shape before) (public_operands op)
+wired-operands shape before (Const value) wired = (tt, tt)
+wired-operands shape before (PubAdd left right) wired = (tt, (wired.0, (wired.1, tt)))
+wired-operands shape before (PubMul left right) wired = (tt, (wired.0, (wired.1, tt)))
+wired-operands shape before (PubSq arg) wired = (tt, (wired, tt))
+wired-operands shape before (PubMap k arg) wired = (tt, (wired.1, tt))
+wired-operands shape before (Lift arg) wired = (tt, (wired, tt))
+wired-operands shape before (Add left right) wired = ((wired.0, (wired.1, tt)), tt)
+wired-operands shape before (AddPub left right) wired = ((wired.0, tt), (wired.1, tt))
+wired-operands shape before (Scale left right) wired = ((wired.0, tt), (wired.1, tt))
+wired-operands shape before (Sq arg) wired = ((wired, tt), tt)
+wired-operands shape before (Map k arg) wired = ((wired.1, tt), tt)
+wired-operands shape before (Mul left right) wired = ((wired.0, (wired.1, tt)), tt)
+wired-operands shape before (Refresh arg) wired = ((wired, tt), tt)
 
 -- what holds of the numbers of some operands
-pub numbers-there : (code : Listing) (P : Operand → Type 0) (Q : ℕ → Type 0) (vs : List Operand) (x : ℕ)
-    → ((v : Operand) → P v → Q (value_number code v)) → Each P vs → Contains (map (value_number code) vs) x → Q x
-unfolding Each
-numbers-there code P Q [] x holds each held = absurd (Contains-none x held)
-numbers-there code P Q (v ∷ vs) x holds each held = elim (Contains-cases (value_number code v) (map (value_number code) vs) x held) [
+pub numbers-there : (shape : Shape) (P : Operand → Type 0) (Q : ℕ → Type 0) (vs : List Operand) (x : ℕ)
+    → ((v : Operand) → P v → Q (value_number shape v)) → AllByRecursion P vs → Contains (map (value_number shape) vs) x → Q x
+numbers-there shape P Q [] x holds each held = absurd (Contains-none x held)
+numbers-there shape P Q (v ∷ vs) x holds each held = elim (Contains-cases (value_number shape v) (map (value_number shape) vs) x held) [
   | inl same ↦ subst Q same (holds v each.0)
-  | inr more ↦ numbers-there code P Q vs x holds each.1 more
+  | inr more ↦ numbers-there shape P Q vs x holds each.1 more
 ]

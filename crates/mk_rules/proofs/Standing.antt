@@ -1,8 +1,8 @@
 -- Blocks laid one after the other behind values with banks: what each of them has to meet, and that the
 -- banks behind it are again such.
-use Rattle.std.proofs.Common.{◌≡◌, ◌≢◌, ℕ, ◌+◌, ◌*◌, ◌<◌, ◌≤◌, Bool, true, false, List, [], ◌∷◌, ◌++◌, length, map, slice_index, slice_index_or, sym, ◌∙◌, ap, refl, subst, arith, inl, inr}
+use Rattle.std.proofs.Common.{◌≡◌, ◌≢◌, ℕ, ◌+◌, ◌*◌, ◌<◌, ◌≤◌, Bool, true, false, List, [], ◌∷◌, ◌++◌, length, map, slice_index_or, sym, ◌∙◌, ap, subst, arith, inl, inr}
 use Rattle.std.specs.List.{Contains, flat_map}
-use Rattle.std.proofs.lemmas.Bool.{cases_lt, lt-ltb}
+use Rattle.std.proofs.lemmas.Bool.{cases_lt}
 use Rattle.std.proofs.lemmas.List.{length-append, length-map, get_or_append_left, get_or_push}
 use Rattle.mk_field.specs.declared.field.FieldId.{FieldId}
 use Rattle.mk_field.specs.declared.map.AddMap.{AddMap}
@@ -10,11 +10,10 @@ use Rattle.mk_code.specs.declared.instr.Instr.{Instr}
 use Rattle.mk_code.specs.Listing.{AllFit}
 use Rattle.mk_code.specs.Counting.{AllBelow}
 use Rattle.mk_code.proofs.Totals.{AllBelow-append}
-use Rattle.mk_code.proofs.Steps.{AllBelow-at}
 use Rattle.mk_ssa.specs.Kinds.{Kind, Public, Linear, Strong}
 use Rattle.mk_gadget.specs.Gadget.{placement, placed, placed_outs}
 use Rattle.mk_gadget.specs.Steady.{DependsAt}
-use Rattle.mk_gadget.proofs.AddTemplate.{placement-own}
+use Rattle.mk_gadget.proofs.Placing.{placement-below}
 use Rattle.mk_rules.proofs.Blocks.{Block, block_len, only, IsSingle, AsksFew, AllAskFew}
 use Rattle.mk_rules.proofs.Views.{flat-long, flat-below}
 
@@ -154,21 +153,12 @@ module _ (field : FieldId) (maps : List AddMap) (n : ℕ) (known : ℕ → Bool)
   pub length-outs : length (block_outs banks base b) ≡ places_of n (known v)
   length-outs = length-map b.gadget.outs (placement (block_reads banks b) base) ∙ good.count ∙ ap (places_of n) (sym good.own)
 
--- a place of a gadget stands before the end of its instructions
-placement-below : (reads : List ℕ) (base len q : ℕ) → AllBelow base reads → q < length reads + len → placement reads base q < base + len
-placement-below reads base len q below inside = elim (cases_lt q (length reads)) [
-  | inl operand ↦
-      let at : placement reads base q ≡ slice_index reads q = rw (lt-ltb q (length reads) operand) refl in
-      omega (arith, at, AllBelow-at base reads q operand below)
-  | inr own ↦ omega (arith, placement-own reads base q own)
-]
-
 -- so do those of its out bank
 outs-below : (reads : List ℕ) (base len : ℕ) (outs : List ℕ) → AllBelow base reads → AllBelow (length reads + len) outs
     → AllBelow (base + len) (map (placement reads base) outs)
 unfolding AllBelow
 outs-below reads base len [] below within = tt
-outs-below reads base len (q ∷ qs) below within = (placement-below reads base len q below within.0, outs-below reads base len qs below within.1)
+outs-below reads base len (q ∷ qs) below within = (placement-below reads base q len below within.0, outs-below reads base len qs below within.1)
 
 -- the banks behind one block more
 pub AreBanks-next : (field : FieldId) (maps : List AddMap) (n : ℕ) (known : ℕ → Bool) (v base : ℕ) (banks : List (List ℕ)) (b : Block)

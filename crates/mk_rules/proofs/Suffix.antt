@@ -19,8 +19,10 @@ use Rattle.mk_gadget.specs.PlacedLaw.{placed_view}
 use Rattle.mk_rules.proofs.Probes.{Contains-first, inside, behind, inside-held, inside-behind}
 use Rattle.mk_rules.proofs.Blocks.{Block, block_len, only, need, IsSingle, AllAskFew}
 use Rattle.mk_rules.proofs.Needs.{need-below, need-later}
-use Rattle.mk_rules.proofs.Views.{length-observation, observation-at, observation-same, observation-seen, same-parts}
-use Rattle.mk_rules.proofs.Values.{AreElementMaps, placed-elements}
+use Rattle.mk_rules.proofs.Views.{observation-same, observation-seen, same-parts}
+use Rattle.mk_code.proofs.Observations.{length-observation, observation-at}
+use Rattle.mk_rules.proofs.Values.{placed-elements}
+use Rattle.mk_code.specs.Listing.{AreElementMaps}
 use Rattle.mk_rules.proofs.Standing.{bank, block_reads, block_outs, banks_with, block_placed, blocks_laid, places_of, is_known, IsBlock, AllBlocks, AllBlocks-few, AllSingle, AreBanks, AreBanks-next, bank-before, bank-next, length-outs}
 use Rattle.mk_rules.proofs.Agreeing.{Agree, looked_at, run-before, Contains-image, block-even}
 
@@ -85,7 +87,7 @@ module _ (field : FieldId) (maps : List AddMap) (n : ℕ) (known : ℕ → Bool)
       → slice_index first (slice_index (bank (banks_with banks base b) x) i) ≡ slice_index second (slice_index (bank (banks_with banks base b) x) i)
   share-before x i before inside_bank equal =
       let place : ℕ = slice_index (bank banks x) i in
-      let here : place < base = AllBelow-at base (bank banks x) i inside_bank (banked.below x before) in
+      let here : place < base = AllBelow-at base (bank banks x) i (banked.below x before) inside_bank in
       let stays : bank (banks_with banks base b) x ≡ bank banks x = bank-before banks (block_outs banks base b) x (omega (arith, before, banked.count)) in
       ap (λ (l : List ℕ). slice_index first (slice_index l i)) stays
       ∙ run-before field maps (block_placed banks base b) s u place (omega (arith, here, left.count))

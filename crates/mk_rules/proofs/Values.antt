@@ -1,29 +1,23 @@
 -- What placed gadgets compute from elements are elements.
-use Rattle.std.proofs.Common.{◌^◌, ◌≡◌, ℕ, ◌+◌, ◌<◌, List, [], ◌∷◌, ◌++◌, length, map, drop, slice_index, slice_index_or, sym, subst, arith, inl, inr}
+use Rattle.std.proofs.Common.{◌≡◌, ℕ, ◌+◌, ◌<◌, List, [], ◌∷◌, ◌++◌, length, map, drop, slice_index, slice_index_or, sym, subst, arith, inl, inr}
 use Rattle.std.specs.List.{All}
 use Rattle.std.proofs.lemmas.Bool.{cases_lt}
 use Rattle.std.proofs.lemmas.List.{get_or_past}
-use Rattle.std.proofs.lemmas.List.Elements.{All-get_or, All-same, All-nil}
+use Rattle.std.proofs.lemmas.List.Elements.{All-get_or}
 use Rattle.mk_field.specs.declared.field.FieldId.{FieldId}
-use Rattle.mk_field.specs.declared.field.FieldId.TheVariants.{Gf2, Gf256}
 use Rattle.mk_field.specs.declared.map.AddMap.{AddMap}
 use Rattle.mk_field.specs.Field.{bits, size}
-use Rattle.mk_field.proofs.Sum.{sum-in_field}
+use Rattle.mk_field.proofs.Sum.{sum-in_field, zero-element}
 use Rattle.mk_field.proofs.Product.{product-in_field, square-in_field, image-below}
 use Rattle.mk_code.specs.declared.instr.Instr.{Instr}
 use Rattle.mk_code.specs.declared.instr.Instr.TheVariants.{Rnd, Const, Copy, Add, Mul, Sq, Map}
-use Rattle.mk_code.specs.Listing.{FitsAt, AllFit, HasMapsOnlyInBytes}
+use Rattle.mk_code.specs.Listing.{FitsAt, AllFit, AreElementMaps}
 use Rattle.mk_code.specs.Trace.{run, takes, entry, image_by}
 use Rattle.mk_code.specs.Counting.{AllBelow, Elements}
 use Rattle.mk_code.proofs.Totals.{AllBelow-append, AllBelow-drop}
 use Rattle.mk_code.proofs.Runs.{length-run}
-use Rattle.mk_code.proofs.Steps.{zero-element}
 use Rattle.mk_gadget.specs.Gadget.{Gadget, moved, placement, placed}
 use Rattle.mk_rules.proofs.Views.{index-below}
-
--- the images of the bits under each map are elements
-abbrev pub AreElementMaps : FieldId → List AddMap → Type 0
-AreElementMaps field maps = All (λ m. All (λ image. image < size field) m.images) maps
 
 -- the images of the bits under a map that is there, and under one that isn't
 bit-image : (field : FieldId) (m : AddMap) (i : ℕ) → All (λ image. image < size field) m.images → slice_index m.images i < size field
@@ -85,9 +79,3 @@ placed-elements field maps count len base reads gadget tape entries all fit rand
   count = omega (arith, length-run field maps (placed reads base gadget) tape entries, here.count, long);
   below = run-elements field maps count len (placement reads base) gadget.instrs tape entries all fit random here.below;
 }
-
--- images that are bytes are elements, since in bits there is no map
-pub bytes-elements : (field : FieldId) (maps : List AddMap) → HasMapsOnlyInBytes field maps → All (λ m. All (λ image. image < 2 ^ 8) m.images) maps
-    → AreElementMaps field maps
-bytes-elements Gf2 maps none bytes = All-same (λ m. All (λ image. image < size Gf2) m.images) maps [] none (All-nil (λ m. All (λ image. image < size Gf2) m.images))
-bytes-elements Gf256 maps none bytes = bytes

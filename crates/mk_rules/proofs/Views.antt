@@ -2,24 +2,13 @@
 use Rattle.std.proofs.Common.{◌≡◌, ℕ, zero, suc, ◌+◌, ◌*◌, ◌<◌, List, [], ◌∷◌, ◌++◌, length, take, drop, slice_index, slice_get, Some, sym, ◌∙◌, ap, refl, arith, inl, inr, mul-suc}
 use Rattle.std.specs.List.{Contains, flat_map}
 use Rattle.std.proofs.lemmas.Bool.{cases_lt}
-use Rattle.std.proofs.lemmas.List.{length-append, length-map, map-append, take_at, drop_at, get_or_append_left, get_or-append-add, get_or_past}
+use Rattle.std.proofs.lemmas.List.{length-append, map-append, take_at, drop_at, get_or_append_left, get_or-append-add, get_or_past}
 use Rattle.std.proofs.lemmas.Option.{same_Some}
 use Rattle.mk_code.specs.Counting.{AllBelow}
 use Rattle.mk_code.specs.Private.{observation}
 use Rattle.mk_code.proofs.Totals.{AllBelow-append}
 use Rattle.mk_code.proofs.Steps.{AllBelow-at}
 use Rattle.mk_rules.proofs.Probes.{Contains-cases, Contains-none, Contains-first, Contains-more}
-
--- as many values are seen as places are observed
-pub length-observation : (places entries : List ℕ) → length (observation places entries) ≡ length places
-length-observation places entries = length-map places (λ p. slice_index entries p)
-
--- the value seen at one of them
-pub observation-at : (places entries : List ℕ) (i : ℕ) → i < length places
-    → slice_index (observation places entries) i ≡ slice_index entries (slice_index places i)
-observation-at [] entries i inside = absurd (omega (arith, inside))
-observation-at (p ∷ ps) entries zero inside = refl
-observation-at (p ∷ ps) entries (suc i) inside = observation-at ps entries i (omega (arith, inside))
 
 -- what is seen at some places and then others
 pub observation-append : (places more entries : List ℕ) → observation (places ++ more) entries ≡ observation places entries ++ observation more entries
@@ -65,7 +54,7 @@ same-parts a b c d long same = (
 -- each entry is below q, and so is 0 past the end
 pub index-below : (q : ℕ) (xs : List ℕ) (p : ℕ) → 0 < q → AllBelow q xs → slice_index xs p < q
 index-below q xs p some below = elim (cases_lt p (length xs)) [
-  | inl inside ↦ AllBelow-at q xs p inside below
+  | inl inside ↦ AllBelow-at q xs p below inside
   | inr past ↦ omega (arith, get_or_past xs p 0 past)
 ]
 

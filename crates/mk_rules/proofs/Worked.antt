@@ -15,6 +15,7 @@ use Rattle.mk_ssa.specs.Kinds.{Linear, Strong}
 use Rattle.mk_gadget.specs.Gadget.{Gadget}
 use Rattle.mk_gadget.specs.Examples.{bit_product}
 use Rattle.mk_gadget.proofs.Examples.{bit_product-strong}
+use Rattle.mk_rules.specs.Shape.{shape_of}
 use Rattle.mk_rules.specs.Tiles.{laid, laid_banks}
 use Rattle.mk_rules.specs.Wired.{IsSharedThere}
 use Rattle.mk_rules.specs.Reaches.{Link, links, IsPath, Reaches, Undoubled}
@@ -24,12 +25,12 @@ use Rattle.mk_rules.specs.Examples.{chain, fresh_chain, sum_times, sum_times_cer
 use Rattle.mk_rules.proofs.Accepted.{accepted-private}
 
 -- secret 0 is an operand of the product
-pub chain-direct : Reaches 2 (links byte_sum chain) 0 2 0
+pub chain-direct : Reaches 2 (links (shape_of byte_sum) chain) 0 2 0
 unfolding IsPath
 chain-direct = record { path = []; operand = 0; leads = refl; strong = (refl, refl) }
 
 -- through its square and the sum it reaches the other place too
-pub chain-through : Reaches 2 (links byte_sum chain) 0 2 1
+pub chain-through : Reaches 2 (links (shape_of byte_sum) chain) 0 2 1
 unfolding IsPath
 chain-through = record {
   path = 0 ∷ 1 ∷ [];
@@ -39,11 +40,11 @@ chain-through = record {
 }
 
 -- so it is doubled
-pub chain-doubled : Undoubled 2 (links byte_sum chain) → ⊥
+pub chain-doubled : Undoubled 2 (links (shape_of byte_sum) chain) → ⊥
 chain-doubled undoubled = undoubled 0 2 chain-direct chain-through
 
 -- secret 1 reaches that place through the sum
-pub chain-other : Reaches 2 (links byte_sum chain) 1 2 1
+pub chain-other : Reaches 2 (links (shape_of byte_sum) chain) 1 2 1
 unfolding IsPath
 chain-other = record { path = 1 ∷ []; operand = 3; leads = ((refl, (1, omega arith, refl)), refl); strong = (refl, refl) }
 
@@ -63,27 +64,27 @@ path-end inputs links v (b ∷ path) w leads = elim (path-end inputs links (inpu
 ]
 
 -- with the sum shared afresh none is doubled: to the refreshed sum leads no path but from it
-pub fresh_chain-undoubled : Undoubled 2 (links byte_sum fresh_chain)
+pub fresh_chain-undoubled : Undoubled 2 (links (shape_of byte_sum) fresh_chain)
 fresh_chain-undoubled v zero first second = let e : Linear ≡ Strong = first.strong.0 in absurd (cc)
 fresh_chain-undoubled v (suc zero) first second = let e : Linear ≡ Strong = first.strong.0 in absurd (cc)
 fresh_chain-undoubled v (suc (suc zero)) first second = let no : None ≡ Some second.operand = second.strong.1 in absurd (cc)
 fresh_chain-undoubled v (suc (suc (suc zero))) first second =
     let left : 0 ≡ first.operand = same_Some 0 first.operand first.strong.1 in
     let right : 4 ≡ second.operand = same_Some 4 second.operand second.strong.1 in
-    elim (path-end 2 (links byte_sum fresh_chain) v second.path second.operand second.leads) [
-      | inl same ↦ elim (path-end 2 (links byte_sum fresh_chain) v first.path first.operand first.leads) [
+    elim (path-end 2 (links (shape_of byte_sum) fresh_chain) v second.path second.operand second.leads) [
+      | inl same ↦ elim (path-end 2 (links (shape_of byte_sum) fresh_chain) v first.path first.operand first.leads) [
         | inl other ↦ absurd (omega (arith, same, other, left, right))
         | inr end ↦ absurd (omega (arith, end.1, left))
       ]
       | inr end ↦
           let at : end.0 ≡ 2 = omega (arith, end.1, right) in
-          let e : Strong ≡ Linear = subst (λ (b : ℕ). IsSomeAnd (slice_get (links byte_sum fresh_chain) b) (λ link. link.kind ≡ Linear)) at end.2 in
+          let e : Strong ≡ Linear = subst (λ (b : ℕ). IsSomeAnd (slice_get (links (shape_of byte_sum) fresh_chain) b) (λ link. link.kind ≡ Linear)) at end.2 in
           absurd (cc)
     ]
 fresh_chain-undoubled v (suc (suc (suc (suc s)))) first second = absurd first.strong
 
 -- from secret 2 no path leads on
-sum_times-path : (v : ℕ) (path : List ℕ) (w : ℕ) → v ≡ 2 → IsPath 3 (links sum_times sum_times_cert.blocks) v path w → w ≡ 2
+sum_times-path : (v : ℕ) (path : List ℕ) (w : ℕ) → v ≡ 2 → IsPath 3 (links (shape_of sum_times) sum_times_cert.blocks) v path w → w ≡ 2
 unfolding IsPath
 sum_times-path v [] w at leads = sym leads ∙ at
 sum_times-path v (zero ∷ path) w at leads = absurd (outside leads.0.1) where
@@ -95,12 +96,12 @@ sum_times-path v (suc zero ∷ path) w at leads = let e : Strong ≡ Linear = le
 sum_times-path v (suc (suc b) ∷ path) w at leads = absurd leads.0
 
 -- so no value is doubled
-sum_times-undoubled : Undoubled 3 (links sum_times sum_times_cert.blocks)
+sum_times-undoubled : Undoubled 3 (links (shape_of sum_times) sum_times_cert.blocks)
 sum_times-undoubled v zero first second = let e : Linear ≡ Strong = first.strong.0 in absurd (cc)
 sum_times-undoubled v (suc zero) first second =
     let left : 3 ≡ first.operand = same_Some 3 first.operand first.strong.1 in
     let right : 2 ≡ second.operand = same_Some 2 second.operand second.strong.1 in
-    elim (path-end 3 (links sum_times sum_times_cert.blocks) v second.path second.operand second.leads) [
+    elim (path-end 3 (links (shape_of sum_times) sum_times_cert.blocks) v second.path second.operand second.leads) [
       | inl same ↦ absurd (omega (arith, left, sum_times-path v first.path first.operand (same ∙ sym right) first.leads))
       | inr end ↦ absurd (omega (arith, end.1, right))
     ]
@@ -112,7 +113,7 @@ unfolding laid laid_banks
 sum_times-accepted refresh = record {
   wired = ((omega arith, omega arith), ((refl, omega arith), tt));
   tiles = refl;
-  outputs = record { there = All-from_recursion (IsSharedThere sum_times sum_times_cert.blocks) sum_times_cert.claims (refl, tt); outs = refl };
+  outputs = record { there = All-from_recursion (IsSharedThere (shape_of sum_times) sum_times_cert.blocks) sum_times_cert.claims (refl, tt); outs = refl };
   undoubled = sum_times-undoubled;
 }
 

@@ -1,8 +1,11 @@
 pub mod Claimed
+pub mod Shape
 pub mod Tiles
 pub mod Wired
 pub mod Reaches
 pub mod Accepts
-pub mod Places
+pub mod Faults
 pub mod Examples
 pub mod Privacy
+pub mod Rows
+pub mod Pairs

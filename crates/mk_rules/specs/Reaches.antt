@@ -1,8 +1,8 @@
 -- Which values reach a multiplication: directly, or through linear blocks.
 use Rattle.std.specs.Prelude.{◌≡◌, ℕ, ◌+◌, List, [], ◌∷◌, map, Contains, IsSomeAnd, slice_get, Some}
-use Rattle.mk_code.specs.Listing.{Listing}
 use Rattle.mk_ssa.specs.declared.Op.{Op}
 use Rattle.mk_ssa.specs.Kinds.{Kind, Linear, Strong, kind, shared_operands}
+use Rattle.mk_rules.specs.Shape.{Shape}
 use Rattle.mk_rules.specs.Tiles.{value_number}
 
 -- what a path sees of a block: its kind, and the numbers of its shared operands by place
@@ -11,8 +11,8 @@ pub record Link : Type 0 where
   pub shared : List ℕ
 
 -- the links of the blocks, in order
-abbrev pub links : Listing → List Op → List Link
-links code blocks = map (λ op. record { kind = kind op; shared = map (value_number code) (shared_operands op) }) blocks
+abbrev pub links : Shape → List Op → List Link
+links shape blocks = map (λ op. record { kind = kind op; shared = map (value_number shape) (shared_operands op) }) blocks
 
 -- a path from the value v to the value w: blocks behind `inputs` input values, each linear and with the
 -- one before as an operand, the first with v and the last being w

@@ -23,14 +23,6 @@ pub fn cost(op: &Op, order: u8) -> Price
     let shares = u32::from(order) + 1;
     let pairs = shares * (shares - 1) / 2;
     match op {
-        Op::Const { .. }
-        | Op::PubAdd { .. }
-        | Op::PubMul { .. }
-        | Op::PubSq { .. }
-        | Op::PubMap { .. } => Price {
-            instrs: 1,
-            randoms: 0,
-        },
         Op::Mul { .. } => Price {
             instrs: shares * shares + 5 * pairs,
             randoms: pairs,
@@ -40,7 +32,7 @@ pub fn cost(op: &Op, order: u8) -> Price
             randoms: pairs,
         },
         _ => Price {
-            instrs: shares,
+            instrs: if op.is_public() { 1 } else { shares },
             randoms: 0,
         },
     }

@@ -6,7 +6,20 @@
 mod cert;
 mod costs;
 mod laws;
+mod numbers;
+mod rows;
+
+/// The greatest masking order of a code that has a bundle text.
+pub const TEXT_TOP_ORDER: u8 = 8;
+
+/// The most blocks of a certificate that has a bundle text.
+pub const MOST_BLOCKS: u32 = 131_072;
+
+/// The most claims of a certificate that has a bundle text, one for each output.
+pub const MOST_CLAIMS: u32 = 65_536;
 
 pub use cert::{Bundle, Cert};
 pub use costs::{Price, cost};
-pub use laws::{accepted_law, images_law};
+pub use laws::accepted_law;
+pub use numbers::value_number;
+pub use rows::{has_bit, join_rows, rows_clash, set_bit};

@@ -1,3 +1,4 @@
+pub mod OneTable
 pub mod Elements
 pub mod Shares
 pub mod Entries

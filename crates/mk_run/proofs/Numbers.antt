@@ -2,7 +2,6 @@
 use Rattle.std.proofs.Common.{◌≡◌, ℕ, zero, suc, ◌+◌, ◌-◌, ◌*◌, ◌/◌, ◌%◌, ◌^◌, ◌<◌, ◌≤◌, List, [], ◌∷◌, ◌++◌, length, take, drop, refl, length-append, sym, ap, ◌∙◌, arith, inl, inr, append_assoc, length-set, zero-add, add-one}
 use Rattle.std.specs.Prelude.{slice_set, slice_index}
 use Rattle.std.proofs.Math.Nat.{mod-lt, pow-suc, pow-zero}
-use Rattle.std.proofs.lemmas.Bool.{cases_eq}
 use Rattle.std.proofs.lemmas.Nat.{mod-mul-add, div-mul-add}
 use Rattle.std.proofs.lemmas.List.{take_more_set, take_at, length-map}
 use Rattle.mk_field.specs.declared.field.FieldId.{FieldId}
@@ -14,9 +13,9 @@ use Rattle.mk_code.specs.Private.{observation, masked_trace, spent, ways}
 use Rattle.mk_code.specs.Trace.{randoms}
 use Rattle.mk_code.proofs.Matching.{one_if_equal-self, one_if_equal-cases}
 use Rattle.mk_code.proofs.Runs.{length-run}
-use Rattle.mk_code.proofs.Steps.{zero-element}
+use Rattle.mk_field.proofs.Sum.{zero-element}
 use Rattle.mk_code.proofs.Sums.{sum_below-same, sum_below-exchange}
-use Rattle.mk_code.proofs.Totals.{Elements-nil, Elements-cons, Elements-take, total-same, total-zero}
+use Rattle.mk_code.proofs.Totals.{Elements-nil, Elements-cons, Elements-take}
 use Rattle.mk_run.specs.Refusals.{tapes, tape_len}
 use Rattle.mk_run.specs.Tapes.{numbered}
 use Rattle.mk_run.proofs.Shares.{Elements-of, encodings-elements}
@@ -105,22 +104,6 @@ shown-le code publics secrets probes zero tuple = omega arith
 shown-le code publics secrets probes (suc n) tuple =
     let here = one_if_equal-le (observation probes (masked_trace code publics secrets (numbered (size code.field) (tape_len code) n))) tuple in
     omega (arith, here, shown-le code publics secrets probes n tuple)
-
--- a tuple of another length is shown by none
-pub ways-length : (code : Listing) (publics secrets probes tuple : List ℕ) → 0 < ways code publics secrets probes tuple → length tuple ≡ length probes
-ways-length code publics secrets probes tuple some = elim (cases_eq (length tuple) (length probes)) [
-  | inl same ↦ same
-  | inr differ ↦
-      let none : (tape : List ℕ) → one_if_equal (observation probes (masked_trace code publics secrets tape)) tuple ≡ 0 = λ tape.
-      elim (one_if_equal-cases (observation probes (masked_trace code publics secrets tape)) tuple) [
-        | inl same ↦ absurd (differ (ap length (sym same) ∙ length-map probes (λ p. slice_index (masked_trace code publics secrets tape) p)))
-        | inr nothing ↦ nothing
-      ] in
-      let all : ways code publics secrets probes tuple ≡ 0 =
-      total-same (size code.field) (tape_len code) (λ tape. one_if_equal (observation probes (masked_trace code publics secrets tape)) tuple) (λ tape. 0) (λ tape here. none tape)
-      ∙ total-zero (size code.field) (tape_len code) in
-      absurd (omega (arith, some, all))
-]
 
 -- one more tape
 pub shown-next : (code : Listing) (publics secrets probes : List ℕ) (count : ℕ) (tuple : List ℕ)

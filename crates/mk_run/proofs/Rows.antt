@@ -88,12 +88,6 @@ module _ {Z : Type 0} where
     all = row-of-shown m;
   }
 
-  -- each key is short, where what is kept is
-  pub keys-short : (m : BTreeMap (Vec ℕ Z) Tally) (most : ℕ) → Ascends m.entries → ((tuple : List ℕ) → IfSome (kept m tuple) (λ t. length tuple < most))
-      → All (λ e. length e.0.items < most) m.entries
-  keys-short m most ascends short k d below =
-      subst (λ (o : Option Tally). IfSome o (λ t. length (slice_index_or m.entries k d).0.items < most)) (all-found m ascends k d below) (short (slice_index_or m.entries k d).0.items)
-
 -- tables of equal numbers are the same
 pub same-table : (f g first second : List ℕ → ℕ) (rows : List Row) → ((tuple : List ℕ) → f tuple ≡ first tuple) → ((tuple : List ℕ) → g tuple ≡ second tuple)
     → IsTable f g rows → IsTable first second rows

@@ -1,5 +1,5 @@
 -- One more tape in a tally.
-use Rattle.std.proofs.Common.{◌≡◌, ◌⊎◌, ℕ, ◌+◌, ◌<◌, Bool, true, false, List, [], length, zero-add, Option, Some, None, Vec, refl, sym, ap, ◌∙◌, subst, arith, inl, inr}
+use Rattle.std.proofs.Common.{◌≡◌, ◌⊎◌, ℕ, ◌+◌, ◌<◌, Bool, true, false, List, [], zero-add, Option, Some, None, Vec, refl, sym, ap, ◌∙◌, subst, arith, inl, inr}
 use Rattle.std.specs.Prelude.{IfSome, unwrap_or}
 use Rattle.std.specs.BTreeMap.{BTreeMap, insert_entry}
 use Rattle.std.specs.Cmp.Lexicographic.{slice_cmp, nat_list_cmp_total}
@@ -144,19 +144,3 @@ module _ {Z : Type 0} where
         ap (λ (t : Tally). t.first) all ∙ zero-add (first tuple),
         ap (λ (t : Tally). t.second) all ∙ zero-add (second tuple),
       )
-
-  -- what is kept of tuples of at most so many values is of such
-  pub kept-short : (m : BTreeMap (Vec ℕ Z) Tally) (most : ℕ) (first second : List ℕ → ℕ) → KeepsShown m
-      → ((tuple : List ℕ) → (((tally_of m tuple).first ≡ first tuple) × ((tally_of m tuple).second ≡ second tuple)))
-      → ((tuple : List ℕ) → 0 < first tuple + second tuple → length tuple < most)
-      → (tuple : List ℕ) → IfSome (kept m tuple) (λ t. length tuple < most)
-  kept-short m most first second shown both short tuple = by (kept m tuple) refl
-    where
-      by : (o : Option Tally) → kept m tuple ≡ o → IfSome o (λ t. length tuple < most)
-      by None is = tt
-      by (Some t) is =
-          let same : tally_of m tuple ≡ t = ap (λ (o : Option Tally). unwrap_or o none) is in
-          let some : 0 < t.first + t.second = subst (λ (o : Option Tally). IfSome o (λ t. 0 < t.first + t.second)) is (shown tuple) in
-          let left : t.first ≡ first tuple = sym (ap (λ (t : Tally). t.first) same) ∙ (both tuple).0 in
-          let right : t.second ≡ second tuple = sym (ap (λ (t : Tally). t.second) same) ∙ (both tuple).1 in
-          short tuple (omega (arith, some, left, right))

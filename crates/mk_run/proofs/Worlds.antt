@@ -1,12 +1,11 @@
 -- The tapes of two worlds, tallied one world after the other.
-use Rattle.std.proofs.Common.{◌≡◌, ℕ, zero, suc, ◌+◌, ◌<◌, List, [], Vec, length, ap, ◌∙◌, arith}
+use Rattle.std.proofs.Common.{◌≡◌, ℕ, List, [], Vec, ap, ◌∙◌}
 use Rattle.std.specs.BTreeMap.{BTreeMap}
 use Rattle.mk_code.specs.Listing.{Listing}
 use Rattle.mk_code.specs.Private.{ways}
 use Rattle.mk_run.specs.declared.tally.Tally.{Tally}
 use Rattle.mk_run.specs.declared.tally.World.TheVariants.{First, Second}
 use Rattle.mk_run.specs.Tally.{more, tally_of}
-use Rattle.mk_run.proofs.Numbers.{ways-length}
 use Rattle.mk_run.proofs.Tallying.{two-worlds}
 
 -- the tallies have the numbers of ways
@@ -20,12 +19,3 @@ tallied code code1 code2 publics publics1 publics2 first second probes t0 t1 t2 
       both.0 ∙ ap (λ (l : Listing). ways l publics1 first probes tuple) same1 ∙ ap (λ (p : List ℕ). ways code p first probes tuple) alike1,
       both.1 ∙ ap (λ (l : Listing). ways l publics2 second probes tuple) same2 ∙ ap (λ (p : List ℕ). ways code p second probes tuple) alike2,
     )
-
--- what some tape shows has as many values as there are probes
-pub shown-length : (code : Listing) (publics first second probes tuple : List ℕ)
-    → 0 < ways code publics first probes tuple + ways code publics second probes tuple → length tuple ≡ length probes
-shown-length code publics first second probes tuple some = by (ways code publics first probes tuple) (λ more. ways-length code publics first probes tuple more) some
-  where
-    by : (n : ℕ) → (0 < n → length tuple ≡ length probes) → 0 < n + ways code publics second probes tuple → length tuple ≡ length probes
-    by zero left more = ways-length code publics second probes tuple (omega (arith, more))
-    by (suc n) left more = left (omega arith)

@@ -26,6 +26,7 @@ pub whole-length : whole_refusal leaking_square (0 ∷ []) (2 ∷ []) [] ≡ Som
 unfolding randoms
 whole-length = refl
 
+-- a secret that is no bit comes before a tape that is too short
 pub whole-element : whole_refusal leaking_square [] (2 ∷ []) [] ≡ Some (run_.Element which_.Secret 0)
 unfolding randoms
 whole-element = refl

@@ -1,36 +1,28 @@
 -- Why secrets are not encoded, why a code is not run and why its tapes are not counted: the first cause in a
 -- fixed order. The rules are this project's own.
-use Rattle.std.specs.Prelude.{ℕ, ◌*◌, ◌^◌, ◌+◌, not, ◌||◌, nat_lt, nat_eq, if◌then◌else◌, List, Option, Some, None, length, option_map}
+use Rattle.std.specs.Prelude.{ℕ, ◌*◌, ◌^◌, ◌+◌, not, ◌||◌, nat_lt, if◌then◌else◌, List, Option, Some, None, length, option_map}
 use Rattle.std.specs.Option.{option_or}
 use Rattle.std.specs.List.{position}
-use Rattle.mk_base.specs.declared.Which.{Which}
 use Rattle.mk_base.specs.declared.Which.TheVariants as which_
-use Rattle.mk_field.specs.declared.field.FieldId.{FieldId}
+use Rattle.mk_base.specs.Inputs.{wrong_number, no_element}
 use Rattle.mk_field.specs.Field.{size}
 use Rattle.mk_code.specs.Listing.{Listing, trace_len}
 use Rattle.mk_code.specs.Trace.{randoms}
 use Rattle.mk_code.specs.Private.{spent}
-use Rattle.mk_run.specs.declared.refusal.InputRefusal.{InputRefusal}
-use Rattle.mk_run.specs.declared.refusal.InputRefusal.TheVariants as input_
+use Rattle.mk_base.specs.declared.inputs.InputRefusal.{InputRefusal}
+use Rattle.mk_base.specs.declared.inputs.InputRefusal.TheVariants as input_
+use Rattle.mk_run.specs.declared.limits.TheConstants.{MOST_TAPES, MOST_ENTRIES}
 use Rattle.mk_run.specs.declared.refusal.RunRefusal.{RunRefusal}
 use Rattle.mk_run.specs.declared.refusal.RunRefusal.TheVariants as run_
 use Rattle.mk_run.specs.declared.refusal.CountRefusal.{CountRefusal}
 use Rattle.mk_run.specs.declared.refusal.CountRefusal.TheVariants as count_
 
--- the number of the inputs isn't the wanted one
-abbrev pub wrong_number : List ℕ → ℕ → Option InputRefusal
-wrong_number inputs wanted = if nat_eq (length inputs) wanted then None else Some (input_.Length (length inputs) wanted)
-
--- an input is no element of the field: the first such one
-abbrev pub no_element : FieldId → Which → List ℕ → Option InputRefusal
-no_element field which inputs = option_map (input_.Element which) (position (λ x. not (nat_lt x (size field))) inputs)
-
--- the same of a run
+-- why the inputs of a run are not taken, as a refusal of the run
 abbrev pub run_refusal_of : InputRefusal → RunRefusal
 run_refusal_of (input_.Length given wanted) = run_.Length given wanted
 run_refusal_of (input_.Element which index) = run_.Element which index
 
--- the same of a count
+-- why the inputs of a count are not taken, as a refusal of the count
 abbrev pub count_refusal_of : InputRefusal → CountRefusal
 count_refusal_of (input_.Length given wanted) = count_.Length given wanted
 count_refusal_of (input_.Element which index) = count_.Element which index
@@ -44,7 +36,7 @@ tape_short tape wanted = if nat_lt (length tape) wanted then Some (run_.TapeShor
 abbrev pub secrets_refusal : Listing → List ℕ → List ℕ → Option InputRefusal
 secrets_refusal code secrets tape =
     option_or (wrong_number secrets code.secrets)
-    (option_or (no_element code.field which_.Secret secrets) (no_element code.field which_.Tape tape))
+    (option_or (no_element which_.Secret (size code.field) secrets) (no_element which_.Tape (size code.field) tape))
 
 -- why they are not encoded, if they are not: they are not taken, or the tape is too short
 abbrev pub encode_refusal : Listing → List ℕ → List ℕ → Option RunRefusal
@@ -56,8 +48,8 @@ abbrev pub shares_refusal : Listing → List ℕ → List ℕ → List ℕ → O
 shares_refusal code publics shares tape =
     option_or (wrong_number publics code.publics)
     (option_or (wrong_number shares (code.secrets * (code.order + 1)))
-    (option_or (no_element code.field which_.Public publics)
-    (option_or (no_element code.field which_.Secret shares) (no_element code.field which_.Tape tape))))
+    (option_or (no_element which_.Public (size code.field) publics)
+    (option_or (no_element which_.Secret (size code.field) shares) (no_element which_.Tape (size code.field) tape))))
 
 -- why the code is not run on them, if it is not: they are not taken, or the tape is too short
 abbrev pub run_refusal : Listing → List ℕ → List ℕ → List ℕ → Option RunRefusal
@@ -74,8 +66,8 @@ abbrev pub inputs_refusal : Listing → List ℕ → List ℕ → List ℕ → O
 inputs_refusal code publics secrets tape =
     option_or (wrong_number publics code.publics)
     (option_or (wrong_number secrets code.secrets)
-    (option_or (no_element code.field which_.Public publics)
-    (option_or (no_element code.field which_.Secret secrets) (no_element code.field which_.Tape tape))))
+    (option_or (no_element which_.Public (size code.field) publics)
+    (option_or (no_element which_.Secret (size code.field) secrets) (no_element which_.Tape (size code.field) tape))))
 
 -- why the code is not run on them, if it is not: they are not taken, or the whole tape is too short
 abbrev pub whole_refusal : Listing → List ℕ → List ℕ → List ℕ → Option RunRefusal
@@ -93,8 +85,8 @@ worlds_refusal code publics first second =
     option_or (wrong_number publics code.publics)
     (option_or (wrong_number first code.secrets)
     (option_or (wrong_number second code.secrets)
-    (option_or (no_element code.field which_.Public publics)
-    (option_or (no_element code.field which_.Secret first) (no_element code.field which_.Other second)))))
+    (option_or (no_element which_.Public (size code.field) publics)
+    (option_or (no_element which_.Secret (size code.field) first) (no_element which_.Other (size code.field) second)))))
 
 -- there are more probes than the order, or a probe is no place of the trace: the first such one
 abbrev pub wrong_probe : Listing → List ℕ → Option CountRefusal
@@ -105,7 +97,7 @@ wrong_probe code probes =
 -- there are more than 1,048,576 tapes, or their traces have more than 4,294,967,296 entries
 abbrev pub too_many_tapes : Listing → Option CountRefusal
 too_many_tapes code =
-    if nat_lt 1048576 (tapes code) || nat_lt 4294967296 (tapes code * trace_len code) then Some (count_.Tapes (tape_len code)) else None
+    if nat_lt MOST_TAPES (tapes code) || nat_lt MOST_ENTRIES (tapes code * trace_len code) then Some (count_.Tapes (tape_len code)) else None
 
 -- why the tapes are not counted, if they are not: the inputs are not taken, or the probes are not, or there are
 -- too many tapes

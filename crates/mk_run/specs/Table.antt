@@ -12,3 +12,7 @@ pub record IsTable (first second : List ℕ → ℕ) (rows : List Row) : Type 0 
   pub numbers : All (λ r. (r.first ≡ first r.seen) × (r.second ≡ second r.seen)) rows
   pub seen : All (λ r. 0 < r.first + r.second) rows
   pub all : (tuple : List ℕ) → 0 < first tuple + second tuple → Contains (map (λ r. r.seen) rows) tuple
+
+-- two worlds have one table
+abbrev pub OneTable : Type 0
+OneTable = (first second : List ℕ → ℕ) (rows others : List Row) → IsTable first second rows → IsTable first second others → rows ≡ others

@@ -1,14 +1,15 @@
 //! Counting the tapes of a code's runs.
 
-ghost use Rattle.std.specs.Prelude.{◌≡◌, ◌⊎◌, ◌+◌, ◌*◌, ◌≤◌, ◌<◌, ◌^◌, ℕ, List, Some, None, IfSome, IfOk, IfErr, OnOk, length};
+ghost use Rattle.std.specs.Prelude.{◌≡◌, ◌⊎◌, ◌+◌, ◌*◌, ◌≤◌, ◌<◌, ◌^◌, ℕ, List, Some, None, IfOk, IfErr, OnOk, length};
 ghost use Rattle.mk_field.specs.Field.{size};
 ghost use Rattle.mk_code.specs.Counting.{AllBelow, Elements};
 ghost use Rattle.mk_code.specs.Listing.{trace_len};
 ghost use Rattle.mk_code.specs.Private.{observation, ways};
 ghost use Rattle.mk_run.specs.Refusals.{tapes, count_refusal};
 ghost use Rattle.mk_run.specs.Table.{IsTable};
-ghost use Rattle.mk_run.specs.Tally.{more, number, kept, tally_of, KeepsShown};
+ghost use Rattle.mk_run.specs.Tally.{more, number, tally_of, KeepsShown};
 ghost use Rattle.mk_run.specs.Tapes.{numbered};
+ghost use Rattle.mk_run.specs.declared.limits.TheConstants.{MOST_TAPES};
 ghost use Rattle.mk_run.specs.declared.refusal.CountRefusal.TheVariants as refusal_;
 
 use crate::inputs::{check_worlds, tape_len_of};
@@ -58,7 +59,7 @@ fn count_world(
     requires secrets { Elements (size runner.old.code.field) runner.old.code.secrets secrets.now }
     requires probes { AllBelow (trace_len runner.old.code) probes.now }
     requires count { count ≡ tapes runner.old.code }
-    requires few { count ≤ 1048576 }
+    requires few { count ≤ MOST_TAPES }
     requires fresh { (tuple : List ℕ) → number world (tally_of tallies.old tuple) ≡ 0 }
     requires shown { KeepsShown tallies.old }
     ensures counted { OnOk result ((tuple : List ℕ) → tally_of tallies.new tuple ≡ more world (ways runner.old.code runner.old.publics secrets.now probes.now tuple) (tally_of tallies.old tuple)) }
@@ -81,13 +82,12 @@ fn count_world(
 /// The rows of the tallies, in order.
 fn rows_of(alloc: Global, tallies: Tallies) -> Result<Table, Memory>
     requires shown { KeepsShown tallies }
-    requires short { (tuple : List ℕ) → IfSome (kept tallies tuple) (λ _. length tuple < 2 ^ 32) }
     ensures { IfOk result (λ rows. IsTable (λ tuple. (tally_of tallies tuple).first) (λ tuple. (tally_of tallies tuple).second) rows) }
 {
     let mut rows = Items::new(alloc);
     for (key, tally) in tallies {
         rows.push(Row {
-            seen: Items::from_vec(key),
+            seen: Items::try_from_vec(key)?,
             first: tally.first,
             second: tally.second,
         })?;
@@ -109,9 +109,8 @@ fn tabulated(
     requires first { Elements (size code.now.field) code.now.secrets first.now }
     requires second { Elements (size code.now.field) code.now.secrets second.now }
     requires probes { AllBelow (trace_len code.now) probes.now }
-    requires length { length probes.now < 2 ^ 32 }
     requires count { count ≡ tapes code.now }
-    requires few { count ≤ 1048576 }
+    requires few { count ≤ MOST_TAPES }
     ensures { IfOk result (λ table. IsTable (ways code.now publics.now first.now probes.now) (ways code.now publics.now second.now probes.now) table) }
 {
     let mut runner = Runner::new(alloc, code, publics)?;

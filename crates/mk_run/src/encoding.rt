@@ -67,7 +67,7 @@ pub(crate) fn encoded(
 {
     let mut shares = Vec::with_capacity(alloc, shares_of(code) as usize)?;
     push_all(code, secrets, tape, &mut shares);
-    Ok(Items::from_vec(shares))
+    Items::try_from_vec(shares)
 }
 
 /// The shares of all secrets of a code, secret by secret: of each secret its encoding by the next elements

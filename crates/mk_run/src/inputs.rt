@@ -1,53 +1,26 @@
 //! The inputs of a code: as many as it takes, and elements of its field.
 
-ghost use Rattle.std.specs.Prelude.{◌≡◌, ◌<◌, ◌≤◌, ◌^◌, ◌*◌, ◌+◌, Some, None, OnOk, IfErr, length, not, nat_lt};
-ghost use Rattle.std.specs.List.{position};
+ghost use Rattle.std.specs.Prelude.{◌≡◌, ◌<◌, ◌≤◌, ◌^◌, ◌*◌, ◌+◌, Some, None, OnOk, IfErr, length};
+ghost use Rattle.mk_base.specs.Inputs.{no_element};
 ghost use Rattle.mk_field.specs.Field.{size};
 ghost use Rattle.mk_code.specs.Counting.{Elements};
 ghost use Rattle.mk_code.specs.Private.{spent};
 ghost use Rattle.mk_code.specs.Trace.{randoms};
-ghost use Rattle.mk_run.specs.Refusals.{tape_len, wrong_number, no_element, tape_short, secrets_refusal, encode_refusal, shares_refusal, run_refusal, worlds_refusal};
+ghost use Rattle.mk_run.specs.Refusals.{tape_len, tape_short, secrets_refusal, encode_refusal, shares_refusal, run_refusal, worlds_refusal};
 
-use crate::refusal::{InputRefusal, RunRefusal};
-use mk_base::Which;
+use crate::refusal::RunRefusal;
+use mk_base::{InputRefusal, Which, check_number};
 use mk_code::Code;
 use mk_field::FieldId;
-
-/// Whether the number of inputs is the wanted one.
-pub(crate) fn check_number(inputs: &[u8], wanted: u32) -> Result<(), InputRefusal>
-    requires { length inputs.now < 2 ^ 32 }
-    ensures right { OnOk result (wrong_number inputs.now wanted ≡ None) }
-    ensures wrong { IfErr result (λ e. wrong_number inputs.now wanted ≡ Some e) }
-    ensures number { OnOk result (length inputs.now ≡ wanted) }
-{
-    let given = inputs.len() as u32;
-    if given != wanted {
-        return Err(InputRefusal::Length { given, wanted });
-    }
-    Ok(())
-}
-
-/// The number of the first input that is no element.
-fn first_other(field: FieldId, inputs: &[u8]) -> Option<usize>
-    ensures { result ≡ position (λ x. not (nat_lt x (size field))) inputs.now }
-{
-    inputs.iter().position(|input| !field.contains(*input))
-}
 
 /// Whether these inputs are elements.
 pub(crate) fn check_each(field: FieldId, which: Which, inputs: &[u8]) -> Result<(), InputRefusal>
     requires { length inputs.now < 2 ^ 32 }
-    ensures right { OnOk result (no_element field which inputs.now ≡ None) }
-    ensures wrong { IfErr result (λ e. no_element field which inputs.now ≡ Some e) }
+    ensures right { OnOk result (no_element which (size field) inputs.now ≡ None) }
+    ensures wrong { IfErr result (λ e. no_element which (size field) inputs.now ≡ Some e) }
     ensures elements { OnOk result (Elements (size field) (length inputs.now) inputs.now) }
 {
-    match first_other(field, inputs) {
-        None => Ok(()),
-        Some(index) => Err(InputRefusal::Element {
-            which,
-            index: index as u32,
-        }),
-    }
+    mk_base::check_each(which, field.size(), inputs)
 }
 
 /// Whether the tape has at least as many elements as are wanted.
@@ -68,7 +41,7 @@ pub(crate) fn check_tape(tape: &[u8], wanted: u32) -> Result<(), RunRefusal>
 pub(crate) fn spent_by(code: &Code) -> u32
     ensures { result ≡ spent code.now }
 {
-    let _field = code.field();
+    code.law();
     u32::from(code.order()) * code.secrets()
 }
 
@@ -76,7 +49,7 @@ pub(crate) fn spent_by(code: &Code) -> u32
 pub(crate) fn shares_of(code: &Code) -> u32
     ensures { result ≡ code.now.secrets * (code.now.order + 1) }
 {
-    let _field = code.field();
+    code.law();
     code.secrets() * (u32::from(code.order()) + 1)
 }
 
@@ -179,6 +152,6 @@ pub(crate) fn check_worlds(
 pub fn tape_len_of(code: &Code) -> u32
     ensures { result ≡ tape_len code.now }
 {
-    let _fits = code.field();
+    code.law();
     spent_by(code) + code.randoms()
 }

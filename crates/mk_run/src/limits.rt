@@ -5,6 +5,7 @@ ghost use Rattle.std.specs.List.{position};
 ghost use Rattle.mk_code.specs.Counting.{AllBelow};
 ghost use Rattle.mk_code.specs.Listing.{trace_len};
 ghost use Rattle.mk_run.specs.Refusals.{tape_len, tapes, wrong_probe, too_many_tapes};
+ghost use Rattle.mk_run.specs.declared.limits.TheConstants.{MOST_TAPES};
 ghost use Rattle.mk_run.specs.declared.refusal.CountRefusal.TheVariants as refusal_;
 
 use crate::inputs::tape_len_of;
@@ -48,7 +49,7 @@ fn few_tapes(code: &Code) -> Option<u32>
     ensures few { IfSome result (λ _. too_many_tapes code.now ≡ None) }
     ensures many { IfNone result (too_many_tapes code.now ≡ Some (refusal_.Tapes (tape_len code.now))) }
     ensures count { IfSome result (λ count. count ≡ tapes code.now) }
-    ensures most { IfSome result (λ count. count ≤ 1048576) }
+    ensures most { IfSome result (λ count. count ≤ MOST_TAPES) }
 {
     let count = u64::from(code.field().size()).checked_pow(tape_len_of(code))?;
     if count > MOST_TAPES || count * u64::from(code.trace_len()) > MOST_ENTRIES {
@@ -62,7 +63,7 @@ pub(crate) fn check_tapes(code: &Code) -> Result<u32, CountRefusal>
     ensures right { IfOk result (λ _. too_many_tapes code.now ≡ None) }
     ensures wrong { IfErr result (λ e. too_many_tapes code.now ≡ Some e) }
     ensures count { IfOk result (λ count. count ≡ tapes code.now) }
-    ensures most { IfOk result (λ count. count ≤ 1048576) }
+    ensures most { IfOk result (λ count. count ≤ MOST_TAPES) }
 {
     match few_tapes(code) {
         Some(count) => Ok(count),

@@ -9,10 +9,10 @@ ghost use Rattle.mk_run.specs.Refusals.{inputs_refusal, whole_refusal, tape_len}
 ghost use Rattle.mk_run.specs.declared.refusal.RunRefusal.TheVariants as refusal_;
 
 use crate::encoding::encoded;
-use crate::inputs::{check_each, check_number, check_tape, spent_by, tape_len_of};
-use crate::refusal::{InputRefusal, RunRefusal};
+use crate::inputs::{check_each, check_tape, spent_by, tape_len_of};
+use crate::refusal::RunRefusal;
 use crate::running::{Trace, traced};
-use mk_base::Which;
+use mk_base::{InputRefusal, Which, check_number};
 use mk_code::Code;
 use std::alloc::Global;
 

@@ -1,18 +1,7 @@
 //! Why a code is not run, and why the tapes of its runs are not counted.
 
-use mk_base::{Memory, Which};
+use mk_base::{InputRefusal, Memory, Which};
 use thiserror::Error;
-
-/// Why some elements are not taken as inputs.
-#[derive(Clone, Copy, Debug, PartialEq, Eq, Error)]
-pub enum InputRefusal {
-    /// 51: so many were given, and so many are wanted.
-    #[error("the number of inputs is not that of the code")]
-    Length { given: u32, wanted: u32 },
-    /// 52: the input of this number, from 0, is no element of the field.
-    #[error("an input is no element of the field")]
-    Element { which: Which, index: u32 },
-}
 
 /// Why secrets are not encoded, or a code is not run.
 #[derive(Clone, Copy, Debug, PartialEq, Eq, Error)]

@@ -11,7 +11,7 @@ ghost use Rattle.mk_run.specs.declared.refusal.RunRefusal.TheVariants as refusal
 
 use crate::inputs::check_run;
 use crate::refusal::RunRefusal;
-use mk_base::{Bytes, Items, Memory};
+use mk_base::{Bytes, Memory};
 use mk_code::{Code, Machine, Used};
 use std::alloc::Global;
 
@@ -53,8 +53,7 @@ pub(crate) fn traced(
 {
     let mut machine = Machine::new(alloc, code, publics, shares)?;
     finish(&mut machine, tape);
-    let entries = Vec::from_slice(alloc, machine.trace())?;
-    Ok(Items::from_vec(entries))
+    Ok(machine.into_trace())
 }
 
 /// The trace of one run of a code on these public inputs and on these shares of its secrets, secret by

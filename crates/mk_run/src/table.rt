@@ -1,5 +1,7 @@
 //! The table of what an observer sees in two worlds.
 
+ghost use Rattle.mk_run.specs.Table.{OneTable};
+
 use mk_base::{Bytes, Items};
 
 /// A tuple of values that an observer sees, and the number of tapes that show it in the first world and in
@@ -13,3 +15,8 @@ pub struct Row {
 
 /// The rows of all tuples that come in one of the worlds, in ascending order.
 pub type Table = Items<Row>;
+
+/// The law of tables: a count has one. It does nothing.
+pub fn table_law()
+    ensures { OneTable }
+{}

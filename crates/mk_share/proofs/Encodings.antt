@@ -1,11 +1,10 @@
 -- An encoding is a sharing of its value.
-use Rattle.std.proofs.Common.{◌≡◌, ℕ, ◌+◌, ◌<◌, List, [], ◌∷◌, ◌++◌, length, take, slice_index, bit_xor, ◌∙◌, ap, arith, add-one, lit<}
+use Rattle.std.proofs.Common.{◌≡◌, ℕ, zero, suc, ◌+◌, ◌<◌, List, [], ◌∷◌, ◌++◌, All, length, take, slice_index, bit_xor, sym, ◌∙◌, ap, subst, arith, add-one}
 use Rattle.std.proofs.Math.Seq.{take-suc}
 use Rattle.mk_field.specs.declared.field.FieldId.{FieldId}
-use Rattle.mk_field.specs.declared.field.FieldId.TheVariants.{Gf2, Gf256}
 use Rattle.mk_field.specs.Field.{size}
 use Rattle.mk_field.specs.Sharing.{IsSharing, field_sum, encoding}
-use Rattle.mk_field.proofs.Sum.{sum-cancel_right, sum-zero_right, field_sum-append}
+use Rattle.mk_field.proofs.Sum.{sum-cancel_right, sum-zero_right, sum-in_field, field_sum-append, zero-element}
 
 -- the sum of an encoding is its value
 pub field_sum-encoding : (value : ℕ) (elements : List ℕ) → field_sum (encoding value elements) ≡ value
@@ -25,12 +24,23 @@ field_sum-push xs a = field_sum-append xs (a ∷ []) ∙ ap (bit_xor (field_sum 
 pub field_sum-take : (xs : List ℕ) (k : ℕ) → k < length xs → field_sum (take (k + 1) xs) ≡ bit_xor (field_sum (take k xs)) (slice_index xs k)
 field_sum-take xs k below = ap field_sum (rw (add-one, take-suc xs k 0)) ∙ field_sum-push (take k xs) (slice_index xs k)
 
--- there are elements
-pub zero-element : (field : FieldId) → 0 < size field
-zero-element Gf2 = lit< tt
-zero-element Gf256 = lit< tt
+-- the sum of elements is an element
+pub field_sum-element : (field : FieldId) (xs : List ℕ) → All (λ a. a < size field) xs → field_sum xs < size field
+unfolding field_sum
+field_sum-element field [] all = zero-element field
+field_sum-element field (x ∷ xs) all =
+    sum-in_field field x (field_sum xs) (all 0 0 (omega arith)) (field_sum-element field xs (λ k d below. all (suc k) d (omega (arith, below))))
 
 -- what is an encoding is a sharing of its value
 pub shares-of : (n value : ℕ) (parts elements : List ℕ) → parts ≡ encoding value elements → length elements + 1 ≡ n → IsSharing n value parts
 shares-of n value parts elements same count =
     record { count = omega (arith, ap length same); sum = ap field_sum same ∙ field_sum-encoding value elements }
+
+-- what is an encoding of an element by elements has elements alone
+pub elements-of : (field : FieldId) (value : ℕ) (parts elements : List ℕ) → parts ≡ encoding value elements
+    → value < size field → All (λ a. a < size field) elements → All (λ a. a < size field) parts
+elements-of field value parts elements same one all = subst (All (λ a. a < size field)) (sym same) by
+  where
+    by : All (λ a. a < size field) (encoding value elements)
+    by zero d below = sum-in_field field value (field_sum elements) one (field_sum-element field elements all)
+    by (suc k) d below = all k d (omega (arith, below))

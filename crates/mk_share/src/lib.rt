@@ -7,4 +7,4 @@ mod share;
 mod share_tests;
 mod with_order;
 
-pub use share::{Bank, Sharing, decode, encode, encoding_law};
+pub use share::{Bank, Sharing, decode, encode, encoding_law, value_of};

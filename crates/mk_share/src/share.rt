@@ -1,4 +1,5 @@
-ghost use Rattle.std.specs.Prelude.{◌≡◌, ◌+◌, ◌≤◌, ◌<◌, ℕ, List, All, length, bit_xor};
+ghost use Rattle.std.specs.Prelude.{◌≡◌, ◌+◌, ◌≤◌, ◌<◌, ◌^◌, ℕ, List, All, length, bit_xor};
+ghost use Rattle.std.specs.List.{range_with_len};
 ghost use Rattle.mk_field.specs.Field.{size};
 ghost use Rattle.mk_field.specs.Sharing.{IsSharing, field_sum, encoding};
 ghost use Rattle.mk_share.specs.Encoding.{EncodingLaw};
@@ -17,6 +18,20 @@ pub struct Bank<const N: usize> {
     pub regs: [u32; N],
 }
 
+impl<const N: usize> Bank<N> {
+    /// The `N` places from `first` on.
+    pub fn from_first(first: u32) -> Bank<N>
+        requires { first + N ≤ 2 ^ 32 }
+        ensures { result.regs ≡ range_with_len first N }
+    {
+        let mut regs = [first; N];
+        for share in 0..N {
+            regs[share] = first + share as u32;
+        }
+        Bank { regs }
+    }
+}
+
 /// The encoding of a value by the N - 1 elements of the tape: these are the shares from 1 on, and
 /// share 0 is the value plus their sum.
 pub fn encode<F: Field, const N: usize>(value: u8, tape: &[u8]) -> Sharing<N>
@@ -30,7 +45,7 @@ pub fn encode<F: Field, const N: usize>(value: u8, tape: &[u8]) -> Sharing<N>
     ensures elements { All (λ a. a < size F.ID) result.parts }
 {
     let mut parts = [0; N];
-    parts[0] = F::add(value, sum::<F>(tape));
+    parts[0] = F::add(value, value_of(tape));
     let all = &mut parts[..];
     all[1..].copy_from_slice(tape);
     Sharing { parts }
@@ -44,18 +59,16 @@ pub fn decode<F: Field, const N: usize>(sharing: &Sharing<N>) -> u8
     ensures value { result ≡ field_sum sharing.now.parts }
     ensures element { result < size F.ID }
 {
-    sum::<F>(&sharing.parts)
+    value_of(&sharing.parts)
 }
 
-/// The sum of some elements.
-fn sum<F: Field>(elements: &[u8]) -> u8
-    requires { All (λ a. a < size F.ID) elements.now }
-    ensures sum { result ≡ field_sum elements.now }
-    ensures element { result < size F.ID }
+/// The value of some shares: their sum, which is exclusive or in both fields.
+pub fn value_of(shares: &[u8]) -> u8
+    ensures { result ≡ field_sum shares.now }
 {
     let mut sum = 0;
-    for element in elements {
-        sum = F::add(sum, *element);
+    for share in shares {
+        sum ^= *share;
     }
     sum
 }

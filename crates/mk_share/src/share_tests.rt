@@ -122,8 +122,8 @@ fn one_share_more_than_the_order(rt: HostRuntime) {
         assert_eq!(rt; shares_at(order), usize::from(order) + 1);
         assert_eq!(rt; bit_shares_and(order, 5), usize::from(order) + 6);
     }
-    let bank = Bank { regs: [3, 5] };
+    let bank = Bank::<3>::from_first(5);
     let again = bank;
-    assert_eq!(rt; bank, again);
+    assert_eq!(rt; again.regs, [5, 6, 7]);
     encoding_law();
 }

@@ -10,7 +10,8 @@ use Rattle.mk_ssa.specs.declared.Op.TheVariants.{Const}
 use Rattle.mk_ssa.specs.declared.Operand.{Operand}
 use Rattle.mk_ssa.specs.declared.Operand.TheVariants.{Secret, Public, Block}
 use Rattle.mk_ssa.specs.Operators.{operands, with_operands}
-use Rattle.mk_ssa.specs.Values.{Draft, IsDraft, Fits, HasMapsOnlyInBytes, front, pushed}
+use Rattle.mk_ssa.specs.Values.{Draft, IsDraft, Fits, front, pushed}
+use Rattle.mk_field.specs.Field.{HasMapsOnlyInBytes}
 use Rattle.mk_ssa.specs.Denoted.{in_order}
 use Rattle.mk_ssa.proofs.Lists.{slice_get-at, slice_get-more, slice_get-last, slice_get-cases, slice_get-front, take-take-below}
 use Rattle.mk_ssa.proofs.There.{IsDraft-pushed}

@@ -58,7 +58,7 @@ fn needed_of(alloc: Global, s: &Ssa, merged: &Merged) -> Result<Ssa, Memory>
     ensures fits { IfOk result IsValues }
 {
     let ops = merged.ops.as_slice();
-    let _values = s.values();
+    s.law();
     let outs = all_renumbered(alloc, s.outs().as_slice(), merged.numbers.as_slice())?;
     let marks = needs(alloc, ops, outs.as_slice())?;
     let maps = s.maps().copy(alloc)?;

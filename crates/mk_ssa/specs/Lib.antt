@@ -3,3 +3,4 @@ pub mod Operators
 pub mod Values
 pub mod Denoted
 pub mod Evaluation
+pub mod Widths

@@ -2,9 +2,8 @@
 -- project's own; docs/MASKING.md has them in words.
 use Rattle.std.specs.Prelude.{◌≡◌, ℕ, ◌<◌, List, [], ◌∷◌, ◌++◌, length, take, true, false, All, Some, IsSomeAnd, slice_get}
 use Rattle.mk_field.specs.declared.field.FieldId.{FieldId}
-use Rattle.mk_field.specs.declared.field.FieldId.TheVariants.{Gf2, Gf256}
 use Rattle.mk_field.specs.declared.map.AddMap.{AddMap}
-use Rattle.mk_field.specs.Field.{size}
+use Rattle.mk_field.specs.Field.{size, HasMapsOnlyInBytes}
 use Rattle.mk_ssa.specs.declared.Operand.{Operand}
 use Rattle.mk_ssa.specs.declared.Operand.TheVariants.{Secret, Public, Block}
 use Rattle.mk_ssa.specs.declared.Op.{Op}
@@ -73,11 +72,6 @@ Fits d (Sq arg) = IsSharedThere d arg
 Fits d (Map map arg) = (map < length d.maps) × IsSharedThere d arg
 Fits d (Mul left right) = IsSharedThere d left × IsSharedThere d right
 Fits d (Refresh arg) = ⊥
-
--- there are maps on bytes only
-abbrev pub HasMapsOnlyInBytes : FieldId → List AddMap → Type 0
-HasMapsOnlyInBytes Gf2 maps = maps ≡ []
-HasMapsOnlyInBytes Gf256 maps = Unit {0}
 
 -- what always holds of values in the making: each value fits behind those before it
 pub record IsDraft (d : Draft) : Type 0 where

@@ -1,5 +1,6 @@
 ghost use Rattle.std.specs.Prelude.{◌≡◌, [], length, All, IfOk, OnOk, OnErr, IsTrue, ◌↔◌};
-ghost use Rattle.mk_ssa.specs.Values.{IsSharedThere, IsDraft, Fits, HasMapsOnlyInBytes, finished, pushed};
+ghost use Rattle.mk_ssa.specs.Values.{IsSharedThere, IsDraft, Fits, finished, pushed};
+ghost use Rattle.mk_field.specs.Field.{HasMapsOnlyInBytes};
 
 use crate::values::Ssa;
 use crate::{MapList, Op, OpList, Operand, OperandList};

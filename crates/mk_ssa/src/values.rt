@@ -28,6 +28,13 @@ impl Model for Ssa {
 }
 
 impl Ssa {
+    /// What holds of every list of values: it fits together. It does nothing.
+    pub fn law(&self)
+        ensures { IsValues self.now }
+    {
+        let _field = self.field;
+    }
+
     /// The field that the values are in.
     pub fn field(&self) -> FieldId
         ensures { result ≡ self.now.field }

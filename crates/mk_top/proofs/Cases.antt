@@ -58,6 +58,7 @@ past at here = record {
   body = stmt.Set (reference at None (codes "y")) (expr.Read (reference here (Some (index.Num 2)) (codes "a"))) ∷ [];
 }
 
+-- a statement, and an index that goes wrong
 past-units : (at here : Place) → units (past at here) ≡ Step ∷ Fault here ∷ []
 past-units at here = simp (evaluated_layers, expr_units_layers, stmt_units_layers) refl
 

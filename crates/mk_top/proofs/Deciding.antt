@@ -6,9 +6,8 @@ use Rattle.mk_base.specs.declared.Place.{Place}
 use Rattle.mk_code.specs.Listing.{Listing}
 use Rattle.mk_rules.specs.Claimed.{Claimed}
 use Rattle.mk_check.proofs.Verdicts.{accepted-not_refused, refused-once}
-use Rattle.mk_bundle.specs.Text.{text}
 use Rattle.mk_lines.specs.Lines.{NamesFirst}
-use Rattle.mk_bundle.specs.Pairs.{IsPair, IsBundleText, TextsDiffer}
+use Rattle.mk_bundle.specs.Pairs.{IsTextOf, IsBundleText, TextsDiffer}
 use Rattle.mk_top.specs.declared.fault.Fault.{Fault}
 use Rattle.mk_top.specs.declared.fault.Fault.TheVariants as fault
 use Rattle.mk_words.specs.declared.fault.SourceFault.{SourceFault}
@@ -118,6 +117,7 @@ record Caused (order : ℕ) (tree : Tree) (fault : Fault) : Type 0 where
   pub cause : Cause tree order refusal
   pub told : fault ≡ fault_of_source refusal
 
+-- a fault that a tree decides under `compile` has its cause
 caused : (order : ℕ) (tree : Tree) (f : Fault) → CompileDecides order tree (Some f) → Caused order tree f
 caused order tree (fault.Source (source.Index at)) d = record { refusal = refusal_.Index at; cause = d; told = refl }
 caused order tree (fault.Source (source.Large limit)) d = record { refusal = refusal_.Large limit; cause = d; told = refl }
@@ -162,8 +162,7 @@ count-one publics first second probes code cert a b one other = one ∙ sym othe
 record Pair (decides : Listing → Claimed → Option Fault → Type 0) (bytes : List ℕ) (answer : Option Fault) : Type 0 where
   pub code : Listing
   pub cert : Claimed
-  pub pair : IsPair code cert
-  pub bytes_are : bytes ≡ text code cert
+  pub spelled : IsTextOf bytes code cert
   pub decided : decides code cert answer
 
 -- a bundle text goes wrong at a line, or is that of a pair
@@ -171,9 +170,10 @@ data Bundled (decides : Listing → Claimed → Option Fault → Type 0) (bytes 
   wrong : (line : ℕ) → answer ≡ Some (fault.Bundle line) → NamesFirst IsBundleText line bytes → (IsBundleText bytes → ⊥) → Bundled decides bytes answer
   paired : Pair decides bytes answer → Bundled decides bytes answer
 
+-- what a bundle decides is one of the two
 bundled : (decides : Listing → Claimed → Option Fault → Type 0) (bytes : List ℕ) (answer : Option Fault) → BundleDecides decides bytes answer → Bundled decides bytes answer
 bundled decides bytes (Some (fault.Bundle line)) d = wrong line refl d.0 d.1
-bundled decides bytes answer d = paired (record { code = d.0; cert = d.1; pair = d.2; bytes_are = d.3; decided = d.4 })
+bundled decides bytes answer d = paired (record { code = d.0; cert = d.1; spelled = d.2; decided = d.3 })
 
 -- the input is too long, or its bytes within the limit decide
 within-or-long : (command : Command) (bytes : List ℕ) (answer : Option Fault) → Decides command bytes answer
@@ -187,9 +187,9 @@ module _ (differ : TextsDiffer) where
       → ((code : Listing) (cert : Claimed) (a b : Option Fault) → decides code cert a → decides code cert b → a ≡ b)
       → (bytes : List ℕ) (a b : Option Fault) → Pair decides bytes a → Pair decides bytes b → a ≡ b
   pairs-one decides one bytes a b first second =
-      let same : text first.code first.cert ≡ text second.code second.cert ++ [] =
-      sym first.bytes_are ∙ second.bytes_are ∙ sym (append-nil (text second.code second.cert)) in
-      let equal = differ first.code second.code first.cert second.cert [] first.pair second.pair same in
+      let whole : IsTextOf (bytes ++ []) first.code first.cert =
+      subst (λ (bs : List ℕ). IsTextOf bs first.code first.cert) (sym (append-nil bytes)) first.spelled in
+      let equal = differ bytes [] first.code second.code first.cert second.cert whole second.spelled in
       one second.code second.cert a b
       (subst (λ (k : Claimed). decides second.code k a) equal.1 (subst (λ (k : Listing). decides k first.cert a) equal.0 first.decided))
       second.decided
@@ -199,8 +199,8 @@ module _ (differ : TextsDiffer) where
       → ((code : Listing) (cert : Claimed) (a b : Option Fault) → decides code cert a → decides code cert b → a ≡ b)
       → (bytes : List ℕ) (a b : Option Fault) → Bundled decides bytes a → Bundled decides bytes b → a ≡ b
   bundle-one decides one bytes a b (wrong m e names none) (wrong n f others never) = e ∙ ap (λ (l : ℕ). Some (fault.Bundle l)) (names-one bytes m n names others) ∙ sym f
-  bundle-one decides one bytes a b (wrong m e names none) (paired p) = absurd (none (p.code, p.cert, p.pair, p.bytes_are))
-  bundle-one decides one bytes a b (paired p) (wrong n f others never) = absurd (never (p.code, p.cert, p.pair, p.bytes_are))
+  bundle-one decides one bytes a b (wrong m e names none) (paired p) = absurd (none (p.code, p.cert, p.spelled))
+  bundle-one decides one bytes a b (paired p) (wrong n f others never) = absurd (never (p.code, p.cert, p.spelled))
   bundle-one decides one bytes a b (paired p) (paired q) = pairs-one decides one bytes a b p q
 
   -- the text that a command reads decides one answer

@@ -2,6 +2,7 @@
 use Rattle.std.proofs.Common.{◌≡◌, ℕ, ◌<◌, ◌≤◌, List, [], ◌∷◌, Option, Some, None, IfSome, Result, Ok, Err, IfOk, IfErr, OnOk, length, inl, inr, refl, ap, sym, subst, arith}
 use Rattle.std.specs.Prelude.{option_map, codes}
 use Rattle.mk_base.specs.Outside.{Rose}
+use Rattle.mk_base.specs.Streams.{ReadsAll}
 use Rattle.mk_bundle.specs.Pairs.{TextsDiffer}
 use Rattle.mk_words.specs.declared.status.Status.TheVariants as status
 use Rattle.mk_top.specs.declared.fault.Fault.{Fault}
@@ -17,10 +18,12 @@ use Rattle.mk_top.specs.Faults.{status_of, fault_of_eval, fault_of_run, fault_of
 use Rattle.mk_top.specs.Decided.{Decides, TextDecides, limit_of}
 use Rattle.mk_top.specs.Headline.{Makes, TakesWhole, TakesSome}
 use Rattle.mk_top.specs.Because.{ReadWhole, Reads, input_of, Because, IsOrMemory, answer_status, IsAnswerOf}
+use Rattle.mk_top.specs.Seen.{Seen}
 use Rattle.mk_top.specs.Running.{Finished, StoppedAt, Stopped, ReadsOrLeaves, NotMade, NoText, Made, IsMade, IsUnmade}
 use Rattle.mk_words.proofs.Asking.{asks-one}
 use Rattle.mk_top.proofs.Deciding.{decides-one}
 use Rattle.mk_top.proofs.Tried.{tries-decides}
+use Rattle.mk_top.proofs.Bundles.{text-told}
 use Rattle.mk_top.proofs.Given.{made-given, no_text-given}
 
 -- what a command makes of its input decides that there is no fault
@@ -29,162 +32,178 @@ makes-decides : (words : List (List ℕ)) (command : Command) (bytes written : L
 makes-decides words (Compile order) bytes written asks makes within =
     (within, (makes.0.tree, makes.0.source.spelled.spelled, makes.0.source.typed, makes.0.within))
 makes-decides words Check bytes written asks makes within =
-    (within, (makes.0.code, makes.0.cert, makes.0.pair, makes.0.bundle, makes.0.accepted))
+    (within, (makes.0.code, makes.0.cert, text-told bytes makes.0.code makes.0.cert makes.0.bundle, makes.0.accepted))
 makes-decides words (Eval ps ss) bytes written asks makes within =
     (within, (makes.tree, makes.source.spelled.spelled, makes.source.typed, sym (ap (option_map fault_of_eval) makes.taken)))
 makes-decides words (Run ps ss tape) bytes written asks makes within =
-    (within, (makes.code, makes.cert, makes.pair, makes.bundle, sym (ap (option_map fault_of_run) makes.taken)))
+    (within, (makes.code, makes.cert, text-told bytes makes.code makes.cert makes.bundle, sym (ap (option_map fault_of_run) makes.taken)))
 makes-decides words (Count ps one two qs) bytes written asks makes within =
-    (within, (makes.code, makes.cert, makes.pair, makes.bundle, sym (ap (option_map fault_of_count) makes.taken)))
-makes-decides words Report bytes written asks makes within = (within, (makes.code, makes.cert, makes.pair, makes.bundle, makes.accepted))
+    (within, (makes.code, makes.cert, text-told bytes makes.code makes.cert makes.bundle, sym (ap (option_map fault_of_count) makes.taken)))
+makes-decides words Report bytes written asks makes within = (within, (makes.code, makes.cert, text-told bytes makes.code makes.cert makes.bundle, makes.accepted))
 makes-decides words (Gen turns) bytes written asks makes within = (within, refl)
 makes-decides words (Trial turns order) bytes written asks makes within = (within, tries-decides turns order written asks.3.1 asks.3.2 makes)
 
-module _ (words : List (List ℕ)) (given after : Option (List ℕ)) (reads then_reads : ℕ) (before taken : Option (List ℕ)) (writes then_writes : ℕ) where
+module _ (words : List (List ℕ)) (input output : Seen) where
   -- a run that stopped under words that ask for a command stopped at this command
-  pub stopped-at : (command : Command) (fault : Fault) → Asks words command → Stopped words given after reads then_reads before taken writes then_writes fault
-      → StoppedAt command (input_of command given) (input_of command after) reads then_reads before taken writes then_writes fault
+  pub stopped-at : (command : Command) (fault : Fault) → Asks words command → Stopped words input output fault → StoppedAt command input output fault
   stopped-at command fault asks stopped = go fault stopped
     where
-      moved : (f : Fault) (other : Command) → Asks words other → StoppedAt other (input_of other given) (input_of other after) reads then_reads before taken writes then_writes f
-          → StoppedAt command (input_of command given) (input_of command after) reads then_reads before taken writes then_writes f
-      moved f other asked at =
-          subst (λ (k : Command). StoppedAt k (input_of k given) (input_of k after) reads then_reads before taken writes then_writes f) (asks-one words other command asked asks) at
+      moved : (f : Fault) (other : Command) → Asks words other → StoppedAt other input output f → StoppedAt command input output f
+      moved f other asked at = subst (λ (k : Command). StoppedAt k input output f) (asks-one words other command asked asks) at
 
-      go : (f : Fault) → Stopped words given after reads then_reads before taken writes then_writes f
-          → StoppedAt command (input_of command given) (input_of command after) reads then_reads before taken writes then_writes f
+      go : (f : Fault) → Stopped words input output f → StoppedAt command input output f
       go fault_.Words s = absurd (s command asks)
       go f s = moved f s.0 s.1 s.2
 
 -- a command that was carried out is the one that the words ask for
-pub finished-at : (words : List (List ℕ)) (command : Command) (given after before taken : Option (List ℕ))
-    → (other : Command) × Asks words other × Finished other (input_of other given) (input_of other after) before taken → Asks words command
-    → Finished command (input_of command given) (input_of command after) before taken
-finished-at words command given after before taken finished asks =
-    subst (λ (k : Command). Finished k (input_of k given) (input_of k after) before taken) (asks-one words finished.0 command finished.1 asks) finished.2
+pub finished-at : (words : List (List ℕ)) (command : Command) (input output : Seen)
+    → (other : Command) × Asks words other × Finished other input output → Asks words command → Finished command input output
+finished-at words command input output finished asks =
+    subst (λ (k : Command). Finished k input output) (asks-one words finished.0 command finished.1 asks) finished.2
+
+-- what holds of what an option has, said of what it is known to have
+of-some : (o : Option (List ℕ)) (bytes : List ℕ) (P : List ℕ → Type 0) → o ≡ Some bytes → IfSome o P → P bytes
+of-some o bytes P is holds = subst (λ (x : Option (List ℕ)). IfSome x P) is holds
+
+-- and the other way round
+on-some : (o : Option (List ℕ)) {P : List ℕ → Type 0} → ((bytes : List ℕ) → o ≡ Some bytes → P bytes) → IfSome o P
+on-some None holds = tt
+on-some (Some bytes) holds = holds bytes refl
+
+-- an input that was read to its end is within the limit
+read-within : (command : Command) (input : Seen) (bytes : List ℕ) → input_of command input.before ≡ Some bytes
+    → ReadWhole (limit_of command) (input_of command input.before) (input_of command input.after) → length bytes ≤ limit_of command
+read-within command input bytes is read =
+    (of-some (input_of command input.before) bytes (λ (bs : List ℕ). (length bs ≤ limit_of command) × (input_of command input.after ≡ Some [])) is read).0
+
+-- a text that was made of the bytes that the input gave decides that there is no fault
+made-decides : (words : List (List ℕ)) (command : Command) (input : Seen) (written bytes : List ℕ) → input_of command input.before ≡ Some bytes → Asks words command
+    → Made command input written → Decides command bytes None
+made-decides words command input written bytes is asks made =
+    makes-decides words command bytes written asks (subst (λ (o : Option (List ℕ)). Makes command o written) is made.makes) (read-within command input bytes is made.read)
 
 -- what the bytes within the limit decide is what the bytes decide
-within-decides : (command : Command) (given after : Option (List ℕ)) (P : List ℕ → Type 0) → ReadWhole (limit_of command) given after → IfSome given P
-    → IfSome given (λ bytes. (length bytes ≤ limit_of command) × P bytes)
-within-decides command None after P read holds = tt
-within-decides command (Some bytes) after P read holds = (read.0, holds)
+within-decides : (command : Command) (input : Seen) (P : List ℕ → Type 0)
+    → ReadWhole (limit_of command) (input_of command input.before) (input_of command input.after) → IfSome (input_of command input.before) P
+    → IfSome (input_of command input.before) (λ bytes. (length bytes ≤ limit_of command) × P bytes)
+within-decides command input P read holds =
+    on-some (input_of command input.before) (λ bytes is. (read-within command input bytes is read, of-some (input_of command input.before) bytes P is holds))
 
 -- why a command stopped, by its cause
-pub stopped-because : (command : Command) (given after : Option (List ℕ)) (reads then_reads : ℕ) (before taken : Option (List ℕ)) (writes then_writes : ℕ) (fault : Fault)
-    → StoppedAt command given after reads then_reads before taken writes then_writes fault → Because command given after reads then_reads writes then_writes fault
-stopped-because command given after reads then_reads before taken writes then_writes fault_.Words s = absurd s
-stopped-because command given after reads then_reads before taken writes then_writes (fault_.Source why) s =
-    within-decides command given after (λ bs. TextDecides command bs (Some (fault_.Source why))) s.1 s.0
-stopped-because command given after reads then_reads before taken writes then_writes (fault_.Inputs why) s =
-    within-decides command given after (λ bs. TextDecides command bs (Some (fault_.Inputs why))) s.1 s.0
-stopped-because command given after reads then_reads before taken writes then_writes (fault_.Check why) s =
-    within-decides command given after (λ bs. TextDecides command bs (Some (fault_.Check why))) s.1 s.0
-stopped-because command given after reads then_reads before taken writes then_writes (fault_.Bundle line) s =
-    within-decides command given after (λ bs. TextDecides command bs (Some (fault_.Bundle line))) s.1 s.0
-stopped-because command given after reads then_reads before taken writes then_writes (fault_.Tapes elements) s =
-    within-decides command given after (λ bs. TextDecides command bs (Some (fault_.Tapes elements))) s.1 s.0
-stopped-because command given after reads then_reads before taken writes then_writes fault_.ReadFault s = (s.1, s.2)
-stopped-because command given after reads then_reads before taken writes then_writes fault_.WriteFault s = s.rose
-stopped-because command given after reads then_reads before taken writes then_writes fault_.Memory s = tt
-stopped-because command given after reads then_reads before taken writes then_writes (fault_.TooLong at) s = (s.1, s.2)
+pub stopped-because : (command : Command) (input output : Seen) (fault : Fault)
+    → StoppedAt command input output fault → Because command input output fault
+stopped-because command input output fault_.Words s = absurd s
+stopped-because command input output (fault_.Source why) s =
+    within-decides command input (λ bs. TextDecides command bs (Some (fault_.Source why))) s.1 s.0
+stopped-because command input output (fault_.Inputs why) s =
+    within-decides command input (λ bs. TextDecides command bs (Some (fault_.Inputs why))) s.1 s.0
+stopped-because command input output (fault_.Check why) s =
+    within-decides command input (λ bs. TextDecides command bs (Some (fault_.Check why))) s.1 s.0
+stopped-because command input output (fault_.Bundle line) s =
+    within-decides command input (λ bs. TextDecides command bs (Some (fault_.Bundle line))) s.1 s.0
+stopped-because command input output (fault_.Tapes elements) s =
+    within-decides command input (λ bs. TextDecides command bs (Some (fault_.Tapes elements))) s.1 s.0
+stopped-because command input output fault_.ReadFault s = (s.1, s.2)
+stopped-because command input output fault_.WriteFault s = s.rose
+stopped-because command input output fault_.Memory s = tt
+stopped-because command input output (fault_.TooLong at) s = (s.1, s.2)
 
 -- why a command stopped is one of its answers
-pub stopped-answer : (command : Command) (given after : Option (List ℕ)) (reads then_reads : ℕ) (before taken : Option (List ℕ)) (writes then_writes : ℕ) (fault : Fault)
-    → StoppedAt command given after reads then_reads before taken writes then_writes fault → IsAnswerOf command (status_of fault)
-stopped-answer command given after reads then_reads before taken writes then_writes fault_.Words s = absurd s
-stopped-answer command given after reads then_reads before taken writes then_writes (fault_.Source why) s = s.2
-stopped-answer command given after reads then_reads before taken writes then_writes (fault_.Inputs why) s = s.2
-stopped-answer command given after reads then_reads before taken writes then_writes (fault_.Check why) s = s.2
-stopped-answer command given after reads then_reads before taken writes then_writes (fault_.Bundle line) s = s.2
-stopped-answer command given after reads then_reads before taken writes then_writes fault_.ReadFault s = s.0
-stopped-answer command given after reads then_reads before taken writes then_writes fault_.WriteFault s = tt
-stopped-answer command given after reads then_reads before taken writes then_writes fault_.Memory s = tt
-stopped-answer command given after reads then_reads before taken writes then_writes (fault_.Tapes elements) s = s.2
-stopped-answer command given after reads then_reads before taken writes then_writes (fault_.TooLong at) s = s.0
+pub stopped-answer : (command : Command) (input output : Seen) (fault : Fault)
+    → StoppedAt command input output fault → IsAnswerOf command (status_of fault)
+stopped-answer command input output fault_.Words s = absurd s
+stopped-answer command input output (fault_.Source why) s = s.2
+stopped-answer command input output (fault_.Inputs why) s = s.2
+stopped-answer command input output (fault_.Check why) s = s.2
+stopped-answer command input output (fault_.Bundle line) s = s.2
+stopped-answer command input output fault_.ReadFault s = s.0
+stopped-answer command input output fault_.WriteFault s = tt
+stopped-answer command input output fault_.Memory s = tt
+stopped-answer command input output (fault_.Tapes elements) s = s.2
+stopped-answer command input output (fault_.TooLong at) s = s.0
 
 -- a command that stopped where the output failed had its text made, and a prefix of it taken
-pub stopped-cut : (command : Command) (given after : Option (List ℕ)) (reads then_reads : ℕ) (before taken : Option (List ℕ)) (writes then_writes : ℕ) (fault : Fault)
-    → StoppedAt command given after reads then_reads before taken writes then_writes fault → status_of fault ≡ status.WriteFault
-    → (written : List ℕ) × Makes command given written × TakesSome before written taken
-stopped-cut command given after reads then_reads before taken writes then_writes fault_.Words s is = absurd cc
-stopped-cut command given after reads then_reads before taken writes then_writes (fault_.Source why) s is = absurd cc
-stopped-cut command given after reads then_reads before taken writes then_writes (fault_.Inputs why) s is = absurd cc
-stopped-cut command given after reads then_reads before taken writes then_writes (fault_.Check why) s is = absurd cc
-stopped-cut command given after reads then_reads before taken writes then_writes (fault_.Bundle line) s is = absurd cc
-stopped-cut command given after reads then_reads before taken writes then_writes fault_.ReadFault s is = absurd cc
-stopped-cut command given after reads then_reads before taken writes then_writes fault_.WriteFault s is = (s.written, s.makes, s.some)
-stopped-cut command given after reads then_reads before taken writes then_writes fault_.Memory s is = absurd cc
-stopped-cut command given after reads then_reads before taken writes then_writes (fault_.Tapes elements) s is = absurd cc
-stopped-cut command given after reads then_reads before taken writes then_writes (fault_.TooLong at) s is = absurd cc
+pub stopped-cut : (command : Command) (input output : Seen) (fault : Fault)
+    → StoppedAt command input output fault → status_of fault ≡ status.WriteFault
+    → (written : List ℕ) × Makes command (input_of command input.before) written × TakesSome output.before written output.after
+stopped-cut command input output fault_.Words s is = absurd cc
+stopped-cut command input output (fault_.Source why) s is = absurd cc
+stopped-cut command input output (fault_.Inputs why) s is = absurd cc
+stopped-cut command input output (fault_.Check why) s is = absurd cc
+stopped-cut command input output (fault_.Bundle line) s is = absurd cc
+stopped-cut command input output fault_.ReadFault s is = absurd cc
+stopped-cut command input output fault_.WriteFault s is = (s.written, s.made.makes, s.some)
+stopped-cut command input output fault_.Memory s is = absurd cc
+stopped-cut command input output (fault_.Tapes elements) s is = absurd cc
+stopped-cut command input output (fault_.TooLong at) s is = absurd cc
 
 -- the text of what the words ask for was put whole
-pub put-finished : (words : List (List ℕ)) (given after before taken : Option (List ℕ)) (written : List ℕ) (r : Result (Unit {0}) Fault)
-    → IsMade words given after written → OnOk r (TakesWhole before written taken)
-    → OnOk r ((command : Command) × Asks words command × Finished command (input_of command given) (input_of command after) before taken)
-put-finished words given after before taken written (Ok done) made whole =
-    (made.0, made.1, record { read = made.2.read; written = written; makes = made.2.makes; whole = whole })
-put-finished words given after before taken written (Err fault) made whole = tt
+pub put-finished : (words : List (List ℕ)) (input output : Seen) (written : List ℕ) (r : Result (Unit {0}) Fault)
+    → IsMade words input written → OnOk r (TakesWhole output.before written output.after)
+    → OnOk r ((command : Command) × Asks words command × Finished command input output)
+put-finished words input output written (Ok done) made whole = (made.0, made.1, record { written = written; made = made.2; whole = whole })
+put-finished words input output written (Err fault) made whole = tt
 
 -- or the output failed
-pub put-stopped : (words : List (List ℕ)) (given after : Option (List ℕ)) (reads then_reads : ℕ) (before taken : Option (List ℕ)) (writes then_writes : ℕ) (written : List ℕ) (r : Result (Unit {0}) Fault)
-    → IsMade words given after written → IfErr r (λ fault. fault ≡ fault_.WriteFault)
-    → IfErr r (λ fault. TakesSome before written taken) → IfErr r (λ fault. Rose writes then_writes)
-    → IfErr r (Stopped words given after reads then_reads before taken writes then_writes)
-put-stopped words given after reads then_reads before taken writes then_writes written (Ok done) made is some rose = tt
-put-stopped words given after reads then_reads before taken writes then_writes written (Err fault) made is some rose =
-    subst (Stopped words given after reads then_reads before taken writes then_writes) (sym is)
-    (made.0, made.1, record { read = made.2.read; written = written; makes = made.2.makes; some = some; rose = rose })
+pub put-stopped : (words : List (List ℕ)) (input output : Seen) (written : List ℕ) (r : Result (Unit {0}) Fault)
+    → IsMade words input written → IfErr r (λ fault. fault ≡ fault_.WriteFault)
+    → IfErr r (λ fault. TakesSome output.before written output.after) → IfErr r (λ fault. Rose output.faults output.faults_after)
+    → IfErr r (Stopped words input output)
+put-stopped words input output written (Ok done) made is some rose = tt
+put-stopped words input output written (Err fault) made is some rose =
+    subst (Stopped words input output) (sym is) (made.0, made.1, record { written = written; made = made.2; some = some; rose = rose })
 
 -- where there is no text, nothing was put
-pub unmade-stopped : (words : List (List ℕ)) (given after : Option (List ℕ)) (reads then_reads : ℕ) (before taken : Option (List ℕ)) (writes then_writes : ℕ) (fault : Fault)
-    → IsUnmade words given after reads then_reads fault → Stopped words given after reads then_reads before taken writes then_writes fault
-unmade-stopped words given after reads then_reads before taken writes then_writes fault_.Words none = none
-unmade-stopped words given after reads then_reads before taken writes then_writes fault_.WriteFault none = absurd none.2
-unmade-stopped words given after reads then_reads before taken writes then_writes fault none = none
+pub unmade-stopped : (words : List (List ℕ)) (input output : Seen) (fault : Fault) → IsUnmade words input fault → Stopped words input output fault
+unmade-stopped words input output fault_.Words none = none
+unmade-stopped words input output fault_.WriteFault none = absurd none.2
+unmade-stopped words input output fault none = none
 
 -- a text that a command made is that of the words that ask for it
-pub made-asked : (words : List (List ℕ)) (command : Command) (given after : Option (List ℕ)) (r : Result (List ℕ) Fault)
-    → Asks words command → IfOk r (Made command (input_of command given) (input_of command after)) → IfOk r (IsMade words given after)
-made-asked words command given after (Ok text) asks made = (command, asks, made)
-made-asked words command given after (Err fault) asks made = tt
+pub made-asked : (words : List (List ℕ)) (command : Command) (input : Seen) (r : Result (List ℕ) Fault)
+    → Asks words command → IfOk r (Made command input) → IfOk r (IsMade words input)
+made-asked words command input (Ok text) asks made = (command, asks, made)
+made-asked words command input (Err fault) asks made = tt
 
 -- and where it has none, they have none
-pub unmade-asked : (words : List (List ℕ)) (command : Command) (given after : Option (List ℕ)) (reads then_reads : ℕ) (r : Result (List ℕ) Fault)
-    → Asks words command → IfErr r (NoText command (input_of command given) (input_of command after) reads then_reads)
-    → IfErr r (IsUnmade words given after reads then_reads)
-unmade-asked words command given after reads then_reads (Ok text) asks none = tt
-unmade-asked words command given after reads then_reads (Err fault_.Words) asks none = absurd none
-unmade-asked words command given after reads then_reads (Err fault) asks none = (command, asks, none)
+pub unmade-asked : (words : List (List ℕ)) (command : Command) (input : Seen) (r : Result (List ℕ) Fault)
+    → Asks words command → IfErr r (NoText command input) → IfErr r (IsUnmade words input)
+unmade-asked words command input (Ok text) asks none = tt
+unmade-asked words command input (Err fault_.Words) asks none = absurd none
+unmade-asked words command input (Err fault) asks none = (command, asks, none)
 
--- the same of a command that reads nothing
-pub made-unread : (words : List (List ℕ)) (command : Command) (given after : Option (List ℕ)) (r : Result (List ℕ) Fault)
-    → input_of command given ≡ Some [] → input_of command after ≡ Some [] → Asks words command → IfOk r (Makes command (Some [])) → IfOk r (IsMade words given after)
-made-unread words command given after r none still asks makes =
-    made-asked words command given after r asks
-    (subst (λ (o : Option (List ℕ)). IfOk r (Made command o (input_of command after))) (sym none)
-    (subst (λ (o : Option (List ℕ)). IfOk r (Made command (Some []) o)) (sym still)
-    (made-given command (Some []) (Some []) [] r (omega arith) (record { whole = refl; end = refl }) makes)))
+-- what a command that reads nothing has to read was read
+nothing-read : (before after : Option (List ℕ)) → before ≡ Some [] → after ≡ Some [] → IfSome before (λ rest. ReadsAll rest [] after)
+nothing-read before after none still =
+    subst (λ (o : Option (List ℕ)). IfSome o (λ rest. ReadsAll rest [] after)) (sym none) (record { whole = refl; end = still })
 
-pub unmade-unread : (words : List (List ℕ)) (command : Command) (given after : Option (List ℕ)) (reads then_reads : ℕ) (r : Result (List ℕ) Fault)
-    → input_of command given ≡ Some [] → input_of command after ≡ Some [] → Asks words command → IfErr r (NotMade command []) → IfErr r (IsUnmade words given after reads then_reads)
-unmade-unread words command given after reads then_reads r none still asks why =
-    unmade-asked words command given after reads then_reads r asks
-    (subst (λ (o : Option (List ℕ)). IfErr r (NoText command o (input_of command after) reads then_reads)) (sym none)
-    (subst (λ (o : Option (List ℕ)). IfErr r (NoText command (Some []) o reads then_reads)) (sym still)
-    (no_text-given command (Some []) (Some []) reads then_reads [] r (omega arith) (record { whole = refl; end = refl }) why)))
+-- so its text is made
+pub made-unread : (words : List (List ℕ)) (command : Command) (input : Seen) (r : Result (List ℕ) Fault)
+    → input_of command input.before ≡ Some [] → input_of command input.after ≡ Some [] → Asks words command → IfOk r (Makes command (Some []))
+    → IfOk r (IsMade words input)
+made-unread words command input r none still asks makes =
+    made-asked words command input r asks (made-given command input [] r (omega arith) (nothing-read _ _ none still) makes)
+
+-- or there is none
+pub unmade-unread : (words : List (List ℕ)) (command : Command) (input : Seen) (r : Result (List ℕ) Fault)
+    → input_of command input.before ≡ Some [] → input_of command input.after ≡ Some [] → Asks words command → IfErr r (NotMade command [])
+    → IfErr r (IsUnmade words input)
+unmade-unread words command input r none still asks why =
+    unmade-asked words command input r asks (no_text-given command input [] r (omega arith) (nothing-read _ _ none still) why)
 
 -- the same of an evaluation on the elements that the words say
-pub made-evaluated : (words : List (List ℕ)) (first second : List ℕ) (given after : Option (List ℕ)) (r : Result (List ℕ) Fault)
-    → words ≡ codes "eval" ∷ first ∷ second ∷ [] → IfOk r (λ text. OfElements first second (λ command. Made command given after text)) → IfOk r (IsMade words given after)
-made-evaluated words first second given after (Ok text) asks made = (Eval made.0 made.1, (first, second, asks, made.2, made.3), made.4)
-made-evaluated words first second given after (Err fault) asks made = tt
+pub made-evaluated : (words : List (List ℕ)) (first second : List ℕ) (input : Seen) (r : Result (List ℕ) Fault)
+    → words ≡ codes "eval" ∷ first ∷ second ∷ [] → IfOk r (λ text. OfElements first second (λ command. Made command input text)) → IfOk r (IsMade words input)
+made-evaluated words first second input (Ok text) asks made = (Eval made.0 made.1, (first, second, asks, made.2, made.3), made.4)
+made-evaluated words first second input (Err fault) asks made = tt
 
-pub unmade-evaluated : (words : List (List ℕ)) (first second : List ℕ) (given after : Option (List ℕ)) (reads then_reads : ℕ) (r : Result (List ℕ) Fault)
-    → words ≡ codes "eval" ∷ first ∷ second ∷ [] → IfErr r (λ fault. OfElements first second (λ command. NoText command given after reads then_reads fault))
-    → IfErr r (IsUnmade words given after reads then_reads)
-unmade-evaluated words first second given after reads then_reads (Ok text) asks none = tt
-unmade-evaluated words first second given after reads then_reads (Err fault) asks none =
-    unmade-asked words (Eval none.0 none.1) given after reads then_reads (Err fault) (first, second, asks, none.2, none.3) none.4
+-- or it has no text
+pub unmade-evaluated : (words : List (List ℕ)) (first second : List ℕ) (input : Seen) (r : Result (List ℕ) Fault)
+    → words ≡ codes "eval" ∷ first ∷ second ∷ [] → IfErr r (λ fault. OfElements first second (λ command. NoText command input fault))
+    → IfErr r (IsUnmade words input)
+unmade-evaluated words first second input (Ok text) asks none = tt
+unmade-evaluated words first second input (Err fault) asks none =
+    unmade-asked words (Eval none.0 none.1) input (Err fault) (first, second, asks, none.2, none.3) none.4
 
 -- the tape that the words give is the one that they say
 tape-said : (kind word : List ℕ) (tape : TapeForm) (given : GivenTape) → SaysTapeSo kind word tape → IsGivenBy tape given → SaysTape kind word given
@@ -199,21 +218,22 @@ asks-run words kind word first second tape P asks says of =
     (Run of.0 of.1 of.2, (first, second, kind, word, asks, of.3, of.4, tape-said kind word tape of.2 says of.5), of.6)
 
 -- the same of a run on what the words say
-pub made-run : (words : List (List ℕ)) (kind word : List ℕ) (first second : List ℕ) (tape : TapeForm) (given after : Option (List ℕ)) (r : Result (List ℕ) Fault)
+pub made-run : (words : List (List ℕ)) (kind word : List ℕ) (first second : List ℕ) (tape : TapeForm) (input : Seen) (r : Result (List ℕ) Fault)
     → words ≡ codes "run" ∷ first ∷ second ∷ kind ∷ word ∷ [] → SaysTapeSo kind word tape
-    → IfOk r (λ text. OfRun first second tape (λ command. Made command given after text)) → IfOk r (IsMade words given after)
-made-run words kind word first second tape given after (Ok text) asks says made =
-    asks-run words kind word first second tape (λ command. Made command (input_of command given) (input_of command after) text) asks says made
-made-run words kind word first second tape given after (Err fault) asks says made = tt
+    → IfOk r (λ text. OfRun first second tape (λ command. Made command input text)) → IfOk r (IsMade words input)
+made-run words kind word first second tape input (Ok text) asks says made =
+    asks-run words kind word first second tape (λ command. Made command input text) asks says made
+made-run words kind word first second tape input (Err fault) asks says made = tt
 
-pub unmade-run : (words : List (List ℕ)) (kind word : List ℕ) (first second : List ℕ) (tape : TapeForm) (given after : Option (List ℕ)) (reads then_reads : ℕ) (r : Result (List ℕ) Fault)
+-- or it has no text
+pub unmade-run : (words : List (List ℕ)) (kind word : List ℕ) (first second : List ℕ) (tape : TapeForm) (input : Seen) (r : Result (List ℕ) Fault)
     → words ≡ codes "run" ∷ first ∷ second ∷ kind ∷ word ∷ [] → SaysTapeSo kind word tape
-    → IfErr r (λ fault. OfRun first second tape (λ command. NoText command given after reads then_reads fault)) → IfErr r (IsUnmade words given after reads then_reads)
-unmade-run words kind word first second tape given after reads then_reads (Ok text) asks says none = tt
-unmade-run words kind word first second tape given after reads then_reads (Err fault) asks says none =
+    → IfErr r (λ fault. OfRun first second tape (λ command. NoText command input fault)) → IfErr r (IsUnmade words input)
+unmade-run words kind word first second tape input (Ok text) asks says none = tt
+unmade-run words kind word first second tape input (Err fault) asks says none =
     let run =
-    asks-run words kind word first second tape (λ command. NoText command (input_of command given) (input_of command after) reads then_reads fault) asks says none in
-    unmade-asked words run.0 given after reads then_reads (Err fault) run.1 run.2
+    asks-run words kind word first second tape (λ command. NoText command input fault) asks says none in
+    unmade-asked words run.0 input (Err fault) run.1 run.2
 
 -- what holds of every run holds of the one on what the words say
 pub any-run : (first second : List ℕ) (tape : TapeForm) (P : Command → Type 0) → AreElements first → AreElements second → IsTapeForm tape
@@ -223,13 +243,13 @@ any-run first second (tape_.Elements word) P one two said all =
     (one.0, two.0, Tape said.0.0, one.1, two.1, (said.0.0, said.0.1, refl), all one.0 two.0 (Tape said.0.0))
 
 -- so a run that wants memory before it reads has no text
-pub run-wanting : (first second : List ℕ) (tape : TapeForm) (given after : Option (List ℕ)) (reads then_reads : ℕ) (r : Result (List ℕ) Fault) (why : Fault)
+pub run-wanting : (first second : List ℕ) (tape : TapeForm) (input : Seen) (r : Result (List ℕ) Fault) (why : Fault)
     → AreElements first → AreElements second → IsTapeForm tape → r ≡ Err why → why ≡ fault_.Memory
-    → IfErr r (λ fault. OfRun first second tape (λ command. NoText command given after reads then_reads fault))
-run-wanting first second tape given after reads then_reads r why one two said is wanted =
-    let P = λ (fault : Fault). OfRun first second tape (λ command. NoText command given after reads then_reads fault) in
+    → IfErr r (λ fault. OfRun first second tape (λ command. NoText command input fault))
+run-wanting first second tape input r why one two said is wanted =
+    let P = λ (fault : Fault). OfRun first second tape (λ command. NoText command input fault) in
     subst (λ (s : Result (List ℕ) Fault). IfErr s P) (sym is)
-    (subst P (sym wanted) (any-run first second tape (λ command. NoText command given after reads then_reads fault_.Memory) one two said (λ publics secrets given. tt)))
+    (subst P (sym wanted) (any-run first second tape (λ command. NoText command input fault_.Memory) one two said (λ publics secrets given. tt)))
 
 -- words of a count ask for the count on what they say
 asks-count : (words : List (List ℕ)) (word one two seen : List ℕ) (P : Command → Type 0)
@@ -237,20 +257,21 @@ asks-count : (words : List (List ℕ)) (word one two seen : List ℕ) (P : Comma
 asks-count words word one two seen P asks of = (Count of.0 of.1 of.2 of.3, (word, one, two, seen, asks, of.4, of.5, of.6, of.7), of.8)
 
 -- the same of a count on what the words say
-pub made-counted : (words : List (List ℕ)) (word one two seen : List ℕ) (given after : Option (List ℕ)) (r : Result (List ℕ) Fault)
-    → words ≡ codes "count" ∷ word ∷ one ∷ two ∷ seen ∷ [] → IfOk r (λ text. OfCount word one two seen (λ command. Made command given after text)) → IfOk r (IsMade words given after)
-made-counted words word one two seen given after (Ok text) asks made =
-    asks-count words word one two seen (λ command. Made command (input_of command given) (input_of command after) text) asks made
-made-counted words word one two seen given after (Err fault) asks made = tt
+pub made-counted : (words : List (List ℕ)) (word one two seen : List ℕ) (input : Seen) (r : Result (List ℕ) Fault)
+    → words ≡ codes "count" ∷ word ∷ one ∷ two ∷ seen ∷ [] → IfOk r (λ text. OfCount word one two seen (λ command. Made command input text)) → IfOk r (IsMade words input)
+made-counted words word one two seen input (Ok text) asks made =
+    asks-count words word one two seen (λ command. Made command input text) asks made
+made-counted words word one two seen input (Err fault) asks made = tt
 
-pub unmade-counted : (words : List (List ℕ)) (word one two seen : List ℕ) (given after : Option (List ℕ)) (reads then_reads : ℕ) (r : Result (List ℕ) Fault)
-    → words ≡ codes "count" ∷ word ∷ one ∷ two ∷ seen ∷ [] → IfErr r (λ fault. OfCount word one two seen (λ command. NoText command given after reads then_reads fault))
-    → IfErr r (IsUnmade words given after reads then_reads)
-unmade-counted words word one two seen given after reads then_reads (Ok text) asks none = tt
-unmade-counted words word one two seen given after reads then_reads (Err fault) asks none =
+-- or it has no text
+pub unmade-counted : (words : List (List ℕ)) (word one two seen : List ℕ) (input : Seen) (r : Result (List ℕ) Fault)
+    → words ≡ codes "count" ∷ word ∷ one ∷ two ∷ seen ∷ [] → IfErr r (λ fault. OfCount word one two seen (λ command. NoText command input fault))
+    → IfErr r (IsUnmade words input)
+unmade-counted words word one two seen input (Ok text) asks none = tt
+unmade-counted words word one two seen input (Err fault) asks none =
     let counted =
-    asks-count words word one two seen (λ command. NoText command (input_of command given) (input_of command after) reads then_reads fault) asks none in
-    unmade-asked words counted.0 given after reads then_reads (Err fault) counted.1 counted.2
+    asks-count words word one two seen (λ command. NoText command input fault) asks none in
+    unmade-asked words counted.0 input (Err fault) counted.1 counted.2
 
 -- a count on elements and probes is one on the words that say them
 module _ (word one two seen publics first second probes qs us xs ks : List ℕ) (P : Command → Type 0)
@@ -331,33 +352,44 @@ module _ (differ : TextsDiffer) where
       → IsOrMemory (status_of fault) (answer_status answer)
   decided-fault command bytes fault answer stopped decides = inl (ap answer_status (decides-one differ command bytes (Some fault) answer stopped decides))
 
+  -- the same of a fault of the text, which was read to its end
+  decided-text : (command : Command) (bytes : List ℕ) (input : Seen) (fault : Fault) (answer : Option Fault) → input_of command input.before ≡ Some bytes
+      → IfSome (input_of command input.before) (λ bs. TextDecides command bs (Some fault))
+      → ReadWhole (limit_of command) (input_of command input.before) (input_of command input.after)
+      → ((length bytes ≤ limit_of command) × TextDecides command bytes (Some fault) → Decides command bytes (Some fault)) → Decides command bytes answer
+      → IsOrMemory (status_of fault) (answer_status answer)
+  decided-text command bytes input fault answer is why read said decides =
+      let told : TextDecides command bytes (Some fault) = of-some (input_of command input.before) bytes (λ (bs : List ℕ). TextDecides command bs (Some fault)) is why in
+      decided-fault command bytes fault answer (said (read-within command input bytes is read, told)) decides
+
   -- where no fault rose, a stopped command answers what its bytes decide, or memory was wanted
-  pub stopped-decided : (words : List (List ℕ)) (command : Command) (given after : Option (List ℕ)) (reads then_reads : ℕ) (before taken : Option (List ℕ)) (writes then_writes : ℕ)
-      (fault : Fault) (answer : Option Fault) → Asks words command → StoppedAt command given after reads then_reads before taken writes then_writes fault
-      → (Rose reads then_reads → ⊥) → (answer ≡ None → Rose writes then_writes → ⊥)
-      → IfSome given (λ bytes. Decides command bytes answer → IsOrMemory (status_of fault) (answer_status answer))
-  stopped-decided words command None after reads then_reads before taken writes then_writes fault answer asks stopped calm still = tt
-  stopped-decided words command (Some bytes) after reads then_reads before taken writes then_writes fault answer asks stopped calm still =
-      λ decides. go fault stopped decides
+  pub stopped-decided : (words : List (List ℕ)) (command : Command) (input output : Seen) (fault : Fault) (answer : Option Fault)
+      → Asks words command → StoppedAt command input output fault
+      → (Rose input.faults input.faults_after → ⊥) → (answer ≡ None → Rose output.faults output.faults_after → ⊥)
+      → IfSome (input_of command input.before) (λ bytes. Decides command bytes answer → IsOrMemory (status_of fault) (answer_status answer))
+  stopped-decided words command input output fault answer asks stopped calm still =
+      on-some (input_of command input.before) (λ bytes is decides. go bytes is fault stopped decides)
     where
-      go : (f : Fault) → StoppedAt command (Some bytes) after reads then_reads before taken writes then_writes f → Decides command bytes answer
+      go : (bytes : List ℕ) → input_of command input.before ≡ Some bytes → (f : Fault) → StoppedAt command input output f → Decides command bytes answer
           → IsOrMemory (status_of f) (answer_status answer)
-      go fault_.Words s decides = absurd s
-      go (fault_.Source why) s decides = decided-fault command bytes (fault_.Source why) answer (s.1.0, s.0) decides
-      go (fault_.Inputs why) s decides = decided-fault command bytes (fault_.Inputs why) answer (s.1.0, s.0) decides
-      go (fault_.Check why) s decides = decided-fault command bytes (fault_.Check why) answer (s.1.0, s.0) decides
-      go (fault_.Bundle line) s decides = decided-fault command bytes (fault_.Bundle line) answer (s.1.0, s.0) decides
-      go fault_.ReadFault s decides = absurd (calm s.1)
-      go fault_.WriteFault s decides =
-          absurd (still (decides-one differ command bytes answer None decides (makes-decides words command bytes s.written asks s.makes s.read.0)) s.rose)
-      go fault_.Memory s decides = inr refl
-      go (fault_.Tapes elements) s decides = decided-fault command bytes (fault_.Tapes elements) answer (s.1.0, s.0) decides
-      go (fault_.TooLong at) s decides = decided-fault command bytes (fault_.TooLong at) answer (s.1, subst (λ (l : ℕ). l < length bytes) (sym s.1) s.2) decides
+      go bytes is fault_.Words s decides = absurd s
+      go bytes is (fault_.Source why) s decides = decided-text command bytes input (fault_.Source why) answer is s.0 s.1 (λ d. d) decides
+      go bytes is (fault_.Inputs why) s decides = decided-text command bytes input (fault_.Inputs why) answer is s.0 s.1 (λ d. d) decides
+      go bytes is (fault_.Check why) s decides = decided-text command bytes input (fault_.Check why) answer is s.0 s.1 (λ d. d) decides
+      go bytes is (fault_.Bundle line) s decides = decided-text command bytes input (fault_.Bundle line) answer is s.0 s.1 (λ d. d) decides
+      go bytes is fault_.ReadFault s decides = absurd (calm s.1)
+      go bytes is fault_.WriteFault s decides =
+          absurd (still (decides-one differ command bytes answer None decides (made-decides words command input s.written bytes is asks s.made)) s.rose)
+      go bytes is fault_.Memory s decides = inr refl
+      go bytes is (fault_.Tapes elements) s decides = decided-text command bytes input (fault_.Tapes elements) answer is s.0 s.1 (λ d. d) decides
+      go bytes is (fault_.TooLong at) s decides =
+          let long : limit_of command < length bytes = of-some (input_of command input.before) bytes (λ (bs : List ℕ). limit_of command < length bs) is s.2 in
+          decided-fault command bytes (fault_.TooLong at) answer (s.1, subst (λ (l : ℕ). l < length bytes) (sym s.1) long) decides
 
   -- a command that was carried out answers what its bytes decide
-  pub finished-decided : (words : List (List ℕ)) (command : Command) (given after before taken : Option (List ℕ)) (answer : Option Fault)
-      → Finished command given after before taken → Asks words command
-      → IfSome given (λ bytes. Decides command bytes answer → IsOrMemory status.Done (answer_status answer))
-  finished-decided words command None after before taken answer finished asks = tt
-  finished-decided words command (Some bytes) after before taken answer f asks =
-      λ decides. inl (ap answer_status (decides-one differ command bytes None answer (makes-decides words command bytes f.written asks f.makes f.read.0) decides))
+  pub finished-decided : (words : List (List ℕ)) (command : Command) (input output : Seen) (answer : Option Fault)
+      → Finished command input output → Asks words command
+      → IfSome (input_of command input.before) (λ bytes. Decides command bytes answer → IsOrMemory status.Done (answer_status answer))
+  finished-decided words command input output answer f asks =
+      on-some (input_of command input.before)
+      (λ bytes is decides. inl (ap answer_status (decides-one differ command bytes None answer (made-decides words command input f.written bytes is asks f.made) decides)))

@@ -1,5 +1,5 @@
 -- What was made of a text, said of the bytes that the input gave.
-use Rattle.std.proofs.Common.{◌≡◌, ℕ, ◌≤◌, List, Option, Some, None, Result, Ok, Err, IfOk, IfErr, IfSome, length, subst, sym, ap, ◌∙◌, ◌⊎◌, inl, inr}
+use Rattle.std.proofs.Common.{◌≡◌, ℕ, ◌≤◌, List, Option, Some, None, Result, Ok, Err, IfOk, IfErr, IfSome, length, refl, subst, sym, ap, ◌⊎◌, inl, inr}
 use Rattle.std.specs.Prelude.{option_map}
 use Rattle.mk_base.specs.Streams.{ReadsAll}
 use Rattle.mk_top.specs.declared.fault.Fault.{Fault}
@@ -8,8 +8,8 @@ use Rattle.mk_words.specs.Words.{Command, Compile, Check, Eval, Run, Count, Repo
 use Rattle.mk_code.specs.Listing.{Listing}
 use Rattle.mk_code.specs.Private.{Private}
 use Rattle.mk_rules.specs.Claimed.{Claimed}
-use Rattle.mk_bundle.specs.Text.{text}
-use Rattle.mk_bundle.specs.Pairs.{IsPair}
+use Rattle.mk_bundle.specs.declared.TheConstants.{MOST_BYTES}
+use Rattle.mk_bundle.specs.Pairs.{IsTextOf}
 use Rattle.mk_rules.specs.Accepts.{IsAccepted}
 use Rattle.mk_types.specs.Elements.{maps_of}
 use Rattle.mk_unroll.specs.Causes.{Cause}
@@ -18,7 +18,7 @@ use Rattle.mk_compile.specs.Compiled.{IsWithin, IsCertified}
 use Rattle.mk_compile.specs.Correct.{Correct}
 use Rattle.mk_top.specs.Decided.{limit_of, TextDecides}
 use Rattle.mk_top.specs.Headline.{CompilesSo, Checks, Evaluates, Makes}
-use Rattle.mk_top.specs.Because.{ReadWhole, IsAnswerOf}
+use Rattle.mk_top.specs.Because.{ReadWhole, IsAnswerOf, input_of}
 use Rattle.mk_top.specs.Sources.{IsSourceOf}
 use Rattle.mk_eval.specs.declared.refusal.EvalRefusal.{EvalRefusal}
 use Rattle.mk_eval.specs.declared.refusal.EvalRefusal.TheVariants as eval
@@ -34,7 +34,9 @@ use Rattle.mk_run.specs.Refusals.{count_refusal, whole_refusal}
 use Rattle.mk_code.specs.Private.{masked_trace}
 use Rattle.mk_top.specs.Runs.{Runs, tape_of, run_text}
 use Rattle.mk_top.specs.Faults.{fault_of_source, status_of, fault_of_eval, fault_of_run, fault_of_count}
+use Rattle.mk_top.specs.Seen.{Seen}
 use Rattle.mk_top.specs.Running.{NotMade, Made, NoText}
+use Rattle.mk_top.proofs.Bundles.{of-given, text-given}
 use Rattle.mk_top.proofs.Counted.{counts-given}
 use Rattle.mk_top.proofs.Reported.{reports-given}
 use Rattle.mk_top.proofs.Causes.{IsLimitOrIndex, cause-kind}
@@ -43,33 +45,15 @@ use Rattle.mk_top.proofs.Texts.{short-text}
 -- the source that was read is the one that was given
 compiles-given : (given after : Option (List ℕ)) (bytes written : List ℕ) (order : ℕ)
     → IfSome given (λ rest. ReadsAll rest bytes after) → CompilesSo order (Some bytes) written → CompilesSo order given written
-compiles-given None after bytes written order read (c, made) = (
+compiles-given given after bytes written order read (c, made) = (
   record {
     tree = c.tree;
     code = c.code;
     cert = c.cert;
-    source = tt;
+    source = of-given (λ (bs : List ℕ). IsSourceOf bs c.tree) given after bytes read c.source;
     typed = c.typed;
     within = c.within;
-    pair = c.pair;
-    bytes = c.bytes;
-    correct = c.correct;
-    private = c.private;
-    accepted = c.accepted;
-    checks = c.checks;
-  },
-  made,
-)
-compiles-given (Some rest) after bytes written order read (c, made) = (
-  record {
-    tree = c.tree;
-    code = c.code;
-    cert = c.cert;
-    source = subst (λ (bs : List ℕ). IsSourceOf bs c.tree) read.whole c.source;
-    typed = c.typed;
-    within = c.within;
-    pair = c.pair;
-    bytes = c.bytes;
+    text = c.text;
     correct = c.correct;
     private = c.private;
     accepted = c.accepted;
@@ -81,18 +65,10 @@ compiles-given (Some rest) after bytes written order read (c, made) = (
 -- the same of a source that was evaluated
 evaluates-given : (given after : Option (List ℕ)) (bytes written ps ss : List ℕ)
     → IfSome given (λ rest. ReadsAll rest bytes after) → Evaluates ps ss (Some bytes) written → Evaluates ps ss given written
-evaluates-given None after bytes written ps ss read c = record {
+evaluates-given given after bytes written ps ss read c = record {
   tree = c.tree;
   outputs = c.outputs;
-  source = tt;
-  result = c.result;
-  taken = c.taken;
-  bytes = c.bytes;
-}
-evaluates-given (Some rest) after bytes written ps ss read c = record {
-  tree = c.tree;
-  outputs = c.outputs;
-  source = subst (λ (bs : List ℕ). IsSourceOf bs c.tree) read.whole c.source;
+  source = of-given (λ (bs : List ℕ). IsSourceOf bs c.tree) given after bytes read c.source;
   result = c.result;
   taken = c.taken;
   bytes = c.bytes;
@@ -100,19 +76,10 @@ evaluates-given (Some rest) after bytes written ps ss read c = record {
 
 -- the bundle that was read is the one that was given
 checks-given : (given after : Option (List ℕ)) (bytes : List ℕ) → IfSome given (λ rest. ReadsAll rest bytes after) → Checks (Some bytes) → Checks given
-checks-given None after bytes read c = record {
+checks-given given after bytes read c = record {
   code = c.code;
   cert = c.cert;
-  pair = c.pair;
-  bundle = tt;
-  accepted = c.accepted;
-  private = c.private;
-}
-checks-given (Some rest) after bytes read c = record {
-  code = c.code;
-  cert = c.cert;
-  pair = c.pair;
-  bundle = sym read.whole ∙ c.bundle;
+  bundle = text-given given after bytes c.code c.cert read c.bundle;
   accepted = c.accepted;
   private = c.private;
 }
@@ -120,19 +87,10 @@ checks-given (Some rest) after bytes read c = record {
 -- the same of a bundle that was run
 runs-given : (given after : Option (List ℕ)) (bytes written ps ss : List ℕ) (tape : GivenTape)
     → IfSome given (λ rest. ReadsAll rest bytes after) → Runs ps ss tape (Some bytes) written → Runs ps ss tape given written
-runs-given None after bytes written ps ss tape read c = record {
+runs-given given after bytes written ps ss tape read c = record {
   code = c.code;
   cert = c.cert;
-  pair = c.pair;
-  bundle = tt;
-  taken = c.taken;
-  bytes = c.bytes;
-}
-runs-given (Some rest) after bytes written ps ss tape read c = record {
-  code = c.code;
-  cert = c.cert;
-  pair = c.pair;
-  bundle = sym read.whole ∙ c.bundle;
+  bundle = text-given given after bytes c.code c.cert read c.bundle;
   taken = c.taken;
   bytes = c.bytes;
 }
@@ -156,18 +114,14 @@ makes-given (Gen turns) given after bytes written read makes = makes
 makes-given (Trial turns order) given after bytes written read makes = makes
 
 -- so the text that is made of what was read is the command's
-pub made-given : (command : Command) (given after : Option (List ℕ)) (bytes : List ℕ) (r : Result (List ℕ) Fault)
-    → length bytes ≤ limit_of command → IfSome given (λ rest. ReadsAll rest bytes after) → IfOk r (Makes command (Some bytes)) → IfOk r (Made command given after)
-made-given command given after bytes (Ok written) within read makes = record {
-  read = read-given given after bytes (limit_of command) within read;
-  makes = makes-given command given after bytes written read makes;
+pub made-given : (command : Command) (input : Seen) (bytes : List ℕ) (r : Result (List ℕ) Fault)
+    → length bytes ≤ limit_of command → IfSome (input_of command input.before) (λ rest. ReadsAll rest bytes (input_of command input.after))
+    → IfOk r (Makes command (Some bytes)) → IfOk r (Made command input)
+made-given command input bytes (Ok written) within read makes = record {
+  read = read-given (input_of command input.before) (input_of command input.after) bytes (limit_of command) within read;
+  makes = makes-given command (input_of command input.before) (input_of command input.after) bytes written read makes;
 }
-made-given command given after bytes (Err fault) within read makes = tt
-
--- an answer that the bytes decide is one that the given bytes decide
-decides-given : (given after : Option (List ℕ)) (bytes : List ℕ) (P : List ℕ → Type 0) → IfSome given (λ rest. ReadsAll rest bytes after) → P bytes → IfSome given P
-decides-given None after bytes P read holds = tt
-decides-given (Some rest) after bytes P read holds = subst P read.whole holds
+made-given command input bytes (Err fault) within read makes = tt
 
 -- the fault of a refused evaluation has one of the answers of `eval`
 answer-of-eval : (ps ss : List ℕ) (r : Option EvalRefusal) (f : Fault) → Some f ≡ option_map fault_of_eval r → IsAnswerOf (Eval ps ss) (status_of f)
@@ -211,44 +165,54 @@ answer-of (Compile order) bytes (fault_.Inputs why) decides = absurd decides.3
 answer-of (Compile order) bytes f decides = absurd decides.3
 answer-of Check bytes (fault_.Check why) decides = tt
 answer-of Check bytes (fault_.Bundle line) decides = tt
-answer-of Check bytes f decides = absurd decides.4
+answer-of Check bytes f decides = absurd decides.3
 answer-of (Eval ps ss) bytes (fault_.Source why) decides = tt
 answer-of (Eval ps ss) bytes f decides = answer-of-eval ps ss (refusal decides.0 ps ss) f decides.3
 answer-of (Run ps ss tape) bytes (fault_.Bundle line) decides = tt
-answer-of (Run ps ss tape) bytes f decides = answer-of-run ps ss tape (whole_refusal decides.0 ps ss (tape_of decides.0 tape)) f decides.4
+answer-of (Run ps ss tape) bytes f decides = answer-of-run ps ss tape (whole_refusal decides.0 ps ss (tape_of decides.0 tape)) f decides.3
 answer-of (Count ps one two qs) bytes (fault_.Bundle line) decides = tt
-answer-of (Count ps one two qs) bytes f decides = answer-of-count ps one two qs (count_refusal decides.0 ps one two qs) f decides.4
+answer-of (Count ps one two qs) bytes f decides = answer-of-count ps one two qs (count_refusal decides.0 ps one two qs) f decides.3
 answer-of Report bytes (fault_.Check why) decides = tt
 answer-of Report bytes (fault_.Bundle line) decides = tt
-answer-of Report bytes f decides = absurd decides.4
+answer-of Report bytes f decides = absurd decides.3
 answer-of (Gen turns) bytes f decides = absurd cc
 answer-of (Trial turns order) bytes (fault_.Source why) decides = tt
 answer-of (Trial turns order) bytes f decides = absurd decides
 
+-- a fault that the bytes of the text decide, said of the input
+text-decides : (command : Command) (input : Seen) (bytes : List ℕ) (fault : Fault)
+    → length bytes ≤ limit_of command → IfSome (input_of command input.before) (λ rest. ReadsAll rest bytes (input_of command input.after))
+    → TextDecides command bytes (Some fault)
+    → IfSome (input_of command input.before) (λ bs. TextDecides command bs (Some fault))
+    × ReadWhole (limit_of command) (input_of command input.before) (input_of command input.after)
+    × IsAnswerOf command (status_of fault)
+text-decides command input bytes fault within read why = (
+  of-given (λ (bs : List ℕ). TextDecides command bs (Some fault)) (input_of command input.before) (input_of command input.after) bytes read why,
+  read-given (input_of command input.before) (input_of command input.after) bytes (limit_of command) within read,
+  answer-of command bytes fault why,
+)
+
 -- why nothing was made of the text, said of the input
-not_made-given : (command : Command) (given after : Option (List ℕ)) (reads then_reads : ℕ) (bytes : List ℕ) (fault : Fault)
-    → length bytes ≤ limit_of command → IfSome given (λ rest. ReadsAll rest bytes after) → NotMade command bytes fault → NoText command given after reads then_reads fault
-not_made-given command given after reads then_reads bytes fault_.Words within read why = why
-not_made-given command given after reads then_reads bytes (fault_.Source w) within read why =
-    (decides-given given after bytes (λ bs. TextDecides command bs (Some (fault_.Source w))) read why, read-given given after bytes (limit_of command) within read, answer-of command bytes (fault_.Source w) why)
-not_made-given command given after reads then_reads bytes (fault_.Inputs w) within read why =
-    (decides-given given after bytes (λ bs. TextDecides command bs (Some (fault_.Inputs w))) read why, read-given given after bytes (limit_of command) within read, answer-of command bytes (fault_.Inputs w) why)
-not_made-given command given after reads then_reads bytes (fault_.Check w) within read why =
-    (decides-given given after bytes (λ bs. TextDecides command bs (Some (fault_.Check w))) read why, read-given given after bytes (limit_of command) within read, answer-of command bytes (fault_.Check w) why)
-not_made-given command given after reads then_reads bytes (fault_.Bundle line) within read why =
-    (decides-given given after bytes (λ bs. TextDecides command bs (Some (fault_.Bundle line))) read why, read-given given after bytes (limit_of command) within read, answer-of command bytes (fault_.Bundle line) why)
-not_made-given command given after reads then_reads bytes fault_.ReadFault within read why = absurd why
-not_made-given command given after reads then_reads bytes fault_.WriteFault within read why = why
-not_made-given command given after reads then_reads bytes fault_.Memory within read why = tt
-not_made-given command given after reads then_reads bytes (fault_.Tapes elements) within read why =
-    (decides-given given after bytes (λ bs. TextDecides command bs (Some (fault_.Tapes elements))) read why, read-given given after bytes (limit_of command) within read, answer-of command bytes (fault_.Tapes elements) why)
-not_made-given command given after reads then_reads bytes (fault_.TooLong at) within read why = absurd why
+not_made-given : (command : Command) (input : Seen) (bytes : List ℕ) (fault : Fault)
+    → length bytes ≤ limit_of command → IfSome (input_of command input.before) (λ rest. ReadsAll rest bytes (input_of command input.after))
+    → NotMade command bytes fault → NoText command input fault
+not_made-given command input bytes fault_.Words within read why = why
+not_made-given command input bytes (fault_.Source w) within read why = text-decides command input bytes (fault_.Source w) within read why
+not_made-given command input bytes (fault_.Inputs w) within read why = text-decides command input bytes (fault_.Inputs w) within read why
+not_made-given command input bytes (fault_.Check w) within read why = text-decides command input bytes (fault_.Check w) within read why
+not_made-given command input bytes (fault_.Bundle line) within read why = text-decides command input bytes (fault_.Bundle line) within read why
+not_made-given command input bytes fault_.ReadFault within read why = absurd why
+not_made-given command input bytes fault_.WriteFault within read why = why
+not_made-given command input bytes fault_.Memory within read why = tt
+not_made-given command input bytes (fault_.Tapes elements) within read why = text-decides command input bytes (fault_.Tapes elements) within read why
+not_made-given command input bytes (fault_.TooLong at) within read why = absurd why
 
 -- the same of an answer
-pub no_text-given : {X : Type 0} (command : Command) (given after : Option (List ℕ)) (reads then_reads : ℕ) (bytes : List ℕ) (r : Result X Fault)
-    → length bytes ≤ limit_of command → IfSome given (λ rest. ReadsAll rest bytes after) → IfErr r (NotMade command bytes) → IfErr r (NoText command given after reads then_reads)
-no_text-given command given after reads then_reads bytes (Ok x) within read why = tt
-no_text-given command given after reads then_reads bytes (Err fault) within read why = not_made-given command given after reads then_reads bytes fault within read why
+pub no_text-given : {X : Type 0} (command : Command) (input : Seen) (bytes : List ℕ) (r : Result X Fault)
+    → length bytes ≤ limit_of command → IfSome (input_of command input.before) (λ rest. ReadsAll rest bytes (input_of command input.after))
+    → IfErr r (NotMade command bytes) → IfErr r (NoText command input)
+no_text-given command input bytes (Ok x) within read why = tt
+no_text-given command input bytes (Err fault) within read why = not_made-given command input bytes fault within read why
 
 -- why the tree of a text is not compiled is why nothing is made of the text
 pub compile_not_made : (order : ℕ) (bytes : List ℕ) (tree : Tree) (e : SourceRefusal) → IsSourceOf bytes tree → (e ≡ refused.Memory) ⊎ Cause tree order e
@@ -275,25 +239,24 @@ eval_not_made ps ss bytes tree e is (inr why) = by e why
     by eval.Memory h = tt
 
 -- why the run of the code of a bundle is refused is why nothing is made of the bundle
-pub run_not_made : (ps ss : List ℕ) (tape : GivenTape) (bytes : List ℕ) (code : Listing) (cert : Claimed) (e : RunRefusal) → IsPair code cert → bytes ≡ text code cert
+pub run_not_made : (ps ss : List ℕ) (tape : GivenTape) (bytes : List ℕ) (code : Listing) (cert : Claimed) (e : RunRefusal) → IsTextOf bytes code cert
     → (e ≡ run.Memory) ⊎ (whole_refusal code ps ss (tape_of code tape) ≡ Some e) → NotMade (Run ps ss tape) bytes (fault_of_run e)
-run_not_made ps ss tape bytes code cert e pair is (inl wanted) = subst (λ (x : RunRefusal). NotMade (Run ps ss tape) bytes (fault_of_run x)) (sym wanted) tt
-run_not_made ps ss tape bytes code cert e pair is (inr why) = by e why
+run_not_made ps ss tape bytes code cert e is (inl wanted) = subst (λ (x : RunRefusal). NotMade (Run ps ss tape) bytes (fault_of_run x)) (sym wanted) tt
+run_not_made ps ss tape bytes code cert e is (inr why) = by e why
   where
     by : (x : RunRefusal) → whole_refusal code ps ss (tape_of code tape) ≡ Some x → NotMade (Run ps ss tape) bytes (fault_of_run x)
-    by (run.Length given wanted) h = (code, cert, pair, is, sym (ap (option_map fault_of_run) h))
-    by (run.Element which index) h = (code, cert, pair, is, sym (ap (option_map fault_of_run) h))
-    by (run.TapeShort given wanted) h = (code, cert, pair, is, sym (ap (option_map fault_of_run) h))
+    by (run.Length given wanted) h = (code, cert, is, sym (ap (option_map fault_of_run) h))
+    by (run.Element which index) h = (code, cert, is, sym (ap (option_map fault_of_run) h))
+    by (run.TapeShort given wanted) h = (code, cert, is, sym (ap (option_map fault_of_run) h))
     by run.Memory h = tt
 
 -- the lines of a run of a bundle are those that it promises
-pub runs-made : (ps ss : List ℕ) (tape : GivenTape) (bytes written : List ℕ) (code : Listing) (cert : Claimed) → IsPair code cert → bytes ≡ text code cert
+pub runs-made : (ps ss : List ℕ) (tape : GivenTape) (bytes written : List ℕ) (code : Listing) (cert : Claimed) → IsTextOf bytes code cert
     → whole_refusal code ps ss (tape_of code tape) ≡ None → written ≡ run_text code (masked_trace code ps ss (tape_of code tape)) → Runs ps ss tape (Some bytes) written
-runs-made ps ss tape bytes written code cert pair is taken lines = record {
+runs-made ps ss tape bytes written code cert is taken lines = record {
   code = code;
   cert = cert;
-  pair = pair;
-  bundle = is;
+  bundle = (bytes, is, refl);
   taken = taken;
   bytes = lines;
 }
@@ -301,8 +264,8 @@ runs-made ps ss tape bytes written code cert pair is taken lines = record {
 -- a source was compiled where its code and certificate are what they promise
 pub compiles-made : (order : ℕ) (bytes written : List ℕ) (tree : Tree) (code : Listing) (cert : Claimed)
     → IsSourceOf bytes tree → IsWithin tree order → Correct tree order code → code.maps ≡ maps_of tree.decls → Private code → IsCertified tree cert → AllDifferButRefreshes cert.blocks → IsAccepted code cert
-    → IsPair code cert → written ≡ text code cert → CompilesSo order (Some bytes) written
-compiles-made order bytes written tree code cert source within correct maps private certified different accepted pair same = (
+    → IsTextOf written code cert → CompilesSo order (Some bytes) written
+compiles-made order bytes written tree code cert source within correct maps private certified different accepted spelled = (
   record {
     tree = tree;
     code = code;
@@ -310,12 +273,11 @@ compiles-made order bytes written tree code cert source within correct maps priv
     source = source;
     typed = source.typed;
     within = within;
-    pair = pair;
-    bytes = same;
+    text = spelled;
     correct = correct;
     private = private;
     accepted = accepted;
-    checks = (subst (λ (bs : List ℕ). length bs ≤ 268435456) (sym same) (short-text code cert pair), (code, cert, pair, same, accepted));
+    checks = (subst (λ (bs : List ℕ). length bs ≤ MOST_BYTES) (sym spelled.1) (short-text code cert spelled.0), (code, cert, spelled, accepted));
   },
   record { certified = certified; different = different; maps = maps },
 )

@@ -1,6 +1,7 @@
 pub mod Cases
 pub mod Causes
 pub mod Texts
+pub mod Bundles
 pub mod Given
 pub mod Deciding
 pub mod Ends

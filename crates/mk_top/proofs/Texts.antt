@@ -17,11 +17,15 @@ use Rattle.mk_ssa.specs.declared.Operand.TheVariants.{Secret, Public, Block}
 use Rattle.mk_ssa.specs.declared.Op.{Op}
 use Rattle.mk_ssa.specs.declared.Op.TheVariants.{Const, PubAdd, PubMul, PubSq, PubMap, Lift, Add, AddPub, Scale, Sq, Map, Mul, Refresh}
 use Rattle.mk_rules.specs.Claimed.{Claimed}
-use Rattle.mk_lines.specs.Words.{OperandFits, operand_word, line, hex_byte}
-use Rattle.mk_lines.specs.CertLines.{op_line, claim_line, OpFits}
-use Rattle.mk_lines.specs.CodeLines.{map_line, instr_line, place_word, out_line, out_lines, MapFits}
+use Rattle.mk_lines.specs.Words.{operand_word, line}
+use Rattle.mk_field.specs.Digits.{hex_byte}
+use Rattle.mk_lines.specs.CertLines.{op_line, claim_line}
+use Rattle.mk_lines.specs.CodeLines.{map_line, instr_line, place_word, out_line, out_lines}
+use Rattle.mk_ssa.specs.Widths.{OperandFits, OpFits}
+use Rattle.mk_field.specs.Maps.{MapFits}
+use Rattle.mk_bundle.specs.declared.TheConstants.{MOST_BYTES}
 use Rattle.mk_bundle.specs.Text.{text, head_lines, field_line, number_line}
-use Rattle.mk_bundle.specs.Pairs.{IsPair}
+use Rattle.mk_rules.specs.Pairs.{IsPair}
 
 -- lists of at most m elements, one for each of these things, have together at most m for each
 short-lines : {X : Type 0} (f : X → List ℕ) (P : X → Type 0) (m : ℕ) → ((x : X) → P x → length (f x) ≤ m)
@@ -165,7 +169,7 @@ short-head code order secrets publics =
     )
 
 -- the text of a pair is within the limit
-pub short-text : (code : Listing) (cert : Claimed) → IsPair code cert → length (text code cert) ≤ 268435456
+pub short-text : (code : Listing) (cert : Claimed) → IsPair code cert → length (text code cert) ≤ MOST_BYTES
 short-text code cert pair =
     let n : ℕ = code.order + 1 in
     let head : List ℕ = head_lines code in

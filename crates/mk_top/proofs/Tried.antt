@@ -24,7 +24,7 @@ use Rattle.mk_rules.specs.Claimed.{Claimed}
 use Rattle.mk_rules.specs.Accepts.{IsAccepted}
 use Rattle.mk_place.specs.Different.{AllDifferButRefreshes}
 use Rattle.mk_bundle.specs.Text.{text}
-use Rattle.mk_bundle.specs.Pairs.{IsPair}
+use Rattle.mk_rules.specs.Pairs.{IsPair}
 use Rattle.mk_compile.specs.Compiled.{IsWithin, IsCertified}
 use Rattle.mk_compile.specs.Correct.{Correct}
 use Rattle.mk_gen.specs.Generated.{declaration_lines, generated, IsGenerated}
@@ -62,10 +62,11 @@ tries-decides turns order written some few tries =
     let is = spelled-generated turns tries.compiled.tree few tries.compiled.source.spelled.spelled in
     subst (λ (n : ℕ). n * ((order + 1) * (order + 1)) ≤ 1000000) is.operations tries.compiled.within.small
 
--- what stands before the number of turns, and behind its line
+-- what stands before the number of turns
 abbrev before_number : List ℕ
 before_number = flat_map ended declaration_lines ++ codes "for i in 0.."
 
+-- what stands behind its line
 abbrev behind_head : List ℕ
 behind_head = flat_map ended (codes "  a = x[i % 16] + y[5 * i % 16];" ∷ codes "  y[i % 16] = a * m(a) + sq(y[(i + 1) % 16]);" ∷ codes "}" ∷ [])
 
@@ -170,12 +171,11 @@ tries-made turns order written tree code cert is_source within correct maps priv
     source = is_source;
     typed = is_source.typed;
     within = within;
-    pair = pair;
-    bytes = refl;
+    text = (pair, refl);
     correct = correct;
     private = private;
     accepted = accepted;
-    checks = (short-text code cert pair, (code, cert, pair, refl, accepted));
+    checks = (short-text code cert pair, (code, cert, (pair, refl), accepted));
   };
   made = record { certified = certified; different = different; maps = maps };
   bytes = line;

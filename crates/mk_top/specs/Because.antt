@@ -7,6 +7,7 @@ use Rattle.mk_words.specs.declared.status.Status.{Status}
 use Rattle.mk_words.specs.declared.status.Status.TheVariants as status
 use Rattle.mk_top.specs.declared.fault.Fault.{Fault}
 use Rattle.mk_top.specs.declared.fault.Fault.TheVariants as fault
+use Rattle.mk_top.specs.Seen.{Seen}
 use Rattle.mk_top.specs.Faults.{status_of, fault_line}
 use Rattle.mk_top.specs.Decided.{limit_of, Decides}
 use Rattle.mk_top.specs.Headline.{TakesWhole, TakesSome}
@@ -30,14 +31,15 @@ ReadWhole limit given after = IfSome given (λ bytes. (length bytes ≤ limit) �
 -- Why a command answers a fault. Reading and writing fail only where the input's, the output's count of
 -- faults rose, reading only while no more bytes than the limit came; an input is too long by the command's
 -- own limit; want of memory is free, and the bytes of the input decide every other fault.
-abbrev pub Because : Command → Option (List ℕ) → Option (List ℕ) → ℕ → ℕ → ℕ → ℕ → Fault → Type 0
-Because command given after reads then_reads writes then_writes fault.ReadFault =
-    Rose reads then_reads × IfSome given (λ bytes. CameWithin (limit_of command) bytes after)
-Because command given after reads then_reads writes then_writes fault.WriteFault = Rose writes then_writes
-Because command given after reads then_reads writes then_writes fault.Memory = Unit {0}
-Because command given after reads then_reads writes then_writes (fault.TooLong limit) =
-    (limit ≡ limit_of command) × IfSome given (λ bytes. limit_of command < length bytes)
-Because command given after reads then_reads writes then_writes why = IfSome given (λ bytes. Decides command bytes (Some why))
+abbrev pub Because : Command → Seen → Seen → Fault → Type 0
+Because command input output fault.ReadFault =
+    Rose input.faults input.faults_after
+    × IfSome (input_of command input.before) (λ bytes. CameWithin (limit_of command) bytes (input_of command input.after))
+Because command input output fault.WriteFault = Rose output.faults output.faults_after
+Because command input output fault.Memory = Unit {0}
+Because command input output (fault.TooLong limit) =
+    (limit ≡ limit_of command) × IfSome (input_of command input.before) (λ bytes. limit_of command < length bytes)
+Because command input output why = IfSome (input_of command input.before) (λ bytes. Decides command bytes (Some why))
 
 -- the status of an answer: done, or that of its fault
 abbrev pub answer_status : Option Fault → Status
@@ -80,6 +82,7 @@ IsAnswerOf command _ = ⊥
 
 -- the fault's line was told: a prefix of it, where the error output tells what it took, and the whole
 -- line where the error output's count of faults didn't rise
-abbrev pub Tells : Fault → Option (List ℕ) → Option (List ℕ) → ℕ → ℕ → Type 0
-Tells why before after faults now =
-    TakesSome before (fault_line why) after × ((Rose faults now → ⊥) → TakesWhole before (fault_line why) after)
+abbrev pub Tells : Fault → Seen → Type 0
+Tells why error =
+    TakesSome error.before (fault_line why) error.after
+    × ((Rose error.faults error.faults_after → ⊥) → TakesWhole error.before (fault_line why) error.after)

@@ -1,15 +1,14 @@
 -- What `count` writes: the lines of a table of two worlds, and whether they are equal.
-use Rattle.std.specs.Prelude.{◌≡◌, ℕ, List, [], ◌∷◌, ◌++◌, Option, None, IfSome, codes, decimal, nat_eq, flat_map, if◌then◌else◌}
+use Rattle.std.specs.Prelude.{◌≡◌, ℕ, List, [], ◌∷◌, ◌++◌, Option, None, codes, decimal, nat_eq, flat_map, if◌then◌else◌}
 use Rattle.std.specs.List.{list_all}
 use Rattle.mk_code.specs.Listing.{Listing}
 use Rattle.mk_code.specs.Private.{ways}
 use Rattle.mk_rules.specs.Claimed.{Claimed}
-use Rattle.mk_bundle.specs.Text.{text}
-use Rattle.mk_bundle.specs.Pairs.{IsPair}
 use Rattle.mk_run.specs.declared.table.Row.{Row}
 use Rattle.mk_run.specs.Refusals.{count_refusal}
 use Rattle.mk_run.specs.Table.{IsTable}
 use Rattle.mk_words.specs.Words.{elements_word}
+use Rattle.mk_top.specs.Bundles.{GivesText}
 
 -- the line of a row: the word of what is seen, and the number of tapes that show it in each world
 abbrev pub row_line : Row → List ℕ
@@ -31,8 +30,7 @@ pub record Counts (publics first second probes : List ℕ) (given : Option (List
   pub code : Listing
   pub cert : Claimed
   pub rows : List Row
-  pub pair : IsPair code cert
-  pub bundle : IfSome given (λ bytes. bytes ≡ text code cert)
+  pub bundle : GivesText given code cert
   pub taken : count_refusal code publics first second probes ≡ None
   pub table : IsTable (ways code publics first probes) (ways code publics second probes) rows
   pub bytes : written ≡ table_text rows

@@ -5,10 +5,12 @@ use Rattle.mk_rules.specs.Claimed.{Claimed}
 use Rattle.mk_rules.specs.Accepts.{IsAccepted}
 use Rattle.mk_check.specs.declared.refusal.CheckRefusal.{CheckRefusal}
 use Rattle.mk_check.specs.declared.refusal.CheckRefusal.TheVariants as refused
-use Rattle.mk_check.specs.Verdict.{Refuses}
-use Rattle.mk_bundle.specs.Text.{text}
+use Rattle.mk_check.specs.Verdict.{IsRefused}
 use Rattle.mk_lines.specs.Lines.{NamesFirst}
-use Rattle.mk_bundle.specs.Pairs.{IsPair, IsBundleText}
+use Rattle.mk_parse.specs.declared.TheConstants.{MOST_SOURCE_BYTES}
+use Rattle.mk_unroll.specs.declared.TheConstants.{MOST_SIZE}
+use Rattle.mk_bundle.specs.declared.TheConstants.{MOST_BYTES}
+use Rattle.mk_bundle.specs.Pairs.{IsTextOf, IsBundleText}
 use Rattle.mk_ast.specs.declared.tree.Program.{Program as Tree}
 use Rattle.mk_ast.specs.declared.refusal.SourceRefusal.TheVariants as refusal_
 use Rattle.mk_ast.specs.declared.refusal.Limit.TheVariants as limit_
@@ -31,12 +33,12 @@ use Rattle.mk_top.specs.Runs.{tape_of}
 
 -- the most bytes that a command reads: of a source, of a bundle, and none
 abbrev pub limit_of : Command → ℕ
-limit_of (Compile order) = 1048576
-limit_of Check = 268435456
-limit_of (Eval publics secrets) = 1048576
-limit_of (Run publics secrets tape) = 268435456
-limit_of (Count publics first second probes) = 268435456
-limit_of Report = 268435456
+limit_of (Compile order) = MOST_SOURCE_BYTES
+limit_of Check = MOST_BYTES
+limit_of (Eval publics secrets) = MOST_SOURCE_BYTES
+limit_of (Run publics secrets tape) = MOST_BYTES
+limit_of (Count publics first second probes) = MOST_BYTES
+limit_of Report = MOST_BYTES
 limit_of (Gen turns) = 0
 limit_of (Trial turns order) = 0
 
@@ -50,7 +52,7 @@ refusal_of (check.Doubled value block) = refused.Doubled value block
 -- the answer that a code and certificate decide under `check`: the rule accepts them, or this is why they are refused
 abbrev pub PairDecides : Listing → Claimed → Option Fault → Type 0
 PairDecides code cert None = IsAccepted code cert
-PairDecides code cert (Some (fault.Check why)) = Refuses code cert (refusal_of why)
+PairDecides code cert (Some (fault.Check why)) = IsRefused code cert (refusal_of why)
 PairDecides code cert (Some _) = ⊥
 
 -- the answer that they decide under `run`: the first refusal of the run on these inputs, if there is one
@@ -65,7 +67,7 @@ CountDecides publics first second probes code cert answer = answer ≡ option_ma
 -- wrong as a text
 abbrev pub BundleDecides : (Listing → Claimed → Option Fault → Type 0) → List ℕ → Option Fault → Type 0
 BundleDecides decides bytes (Some (fault.Bundle line)) = NamesFirst IsBundleText line bytes × (IsBundleText bytes → ⊥)
-BundleDecides decides bytes answer = (code : Listing) × (cert : Claimed) × IsPair code cert × (bytes ≡ text code cert) × decides code cert answer
+BundleDecides decides bytes answer = (code : Listing) × (cert : Claimed) × IsTextOf bytes code cert × decides code cert answer
 
 -- The answer that a source decides, by what a well typed tree decides: it spells none, and then its first
 -- place where no program can go on; or one with a first offence; or one that is well typed.
@@ -94,8 +96,8 @@ EvalDecides publics secrets tree answer = answer ≡ option_map fault_of_eval (r
 -- the answer of a trial: the generated program is within the limits, or its operators times the square of the number
 -- of shares are too many
 abbrev pub TrialDecides : ℕ → ℕ → Option Fault → Type 0
-TrialDecides turns order None = 5 * turns * ((order + 1) * (order + 1)) ≤ 1000000
-TrialDecides turns order (Some (fault.Source (source.Large limit_.Size))) = 1000000 < 5 * turns * ((order + 1) * (order + 1))
+TrialDecides turns order None = 5 * turns * ((order + 1) * (order + 1)) ≤ MOST_SIZE
+TrialDecides turns order (Some (fault.Source (source.Large limit_.Size))) = MOST_SIZE < 5 * turns * ((order + 1) * (order + 1))
 TrialDecides turns order (Some _) = ⊥
 
 -- the answer that the bytes within the limit decide

@@ -8,8 +8,7 @@ use Rattle.mk_ssa.specs.declared.Op.{Op}
 use Rattle.mk_ssa.specs.declared.Op.TheVariants.{Refresh}
 use Rattle.mk_rules.specs.Claimed.{Claimed}
 use Rattle.mk_rules.specs.Accepts.{IsAccepted}
-use Rattle.mk_bundle.specs.Text.{text}
-use Rattle.mk_bundle.specs.Pairs.{IsPair}
+use Rattle.mk_bundle.specs.Pairs.{IsTextOf}
 use Rattle.mk_ast.specs.declared.tree.Program.{Program as Tree}
 use Rattle.mk_types.specs.Offences.{IsWellTyped}
 use Rattle.mk_types.specs.Elements.{maps_of}
@@ -22,6 +21,7 @@ use Rattle.mk_compile.specs.Compiled.{IsWithin, IsCertified}
 use Rattle.mk_compile.specs.Correct.{Correct}
 use Rattle.mk_words.specs.Words.{Command, Compile, Check, Eval, Run, Count, Report, Gen, Trial, elements_word}
 use Rattle.mk_top.specs.Sources.{IsSourceOf}
+use Rattle.mk_top.specs.Bundles.{GivesText}
 use Rattle.mk_top.specs.Runs.{Runs}
 use Rattle.mk_top.specs.Counts.{Counts}
 use Rattle.mk_top.specs.Decided.{Decides}
@@ -46,8 +46,7 @@ pub record Compiles (order : ℕ) (given : Option (List ℕ)) (written : List �
   pub source : IfSome given (λ bytes. IsSourceOf bytes tree)
   pub typed : IsWellTyped tree
   pub within : IsWithin tree order
-  pub pair : IsPair code cert
-  pub bytes : written ≡ text code cert
+  pub text : IsTextOf written code cert
   pub correct : Correct tree order code
   pub private : Private code
   pub accepted : IsAccepted code cert
@@ -69,8 +68,7 @@ CompilesSo order given written = (c : Compiles order given written) × IsMadeOf 
 pub record Checks (given : Option (List ℕ)) : Type 0 where
   pub code : Listing
   pub cert : Claimed
-  pub pair : IsPair code cert
-  pub bundle : IfSome given (λ bytes. bytes ≡ text code cert)
+  pub bundle : GivesText given code cert
   pub accepted : IsAccepted code cert
   pub private : Private code
 
@@ -89,8 +87,7 @@ pub record Evaluates (publics secrets : List ℕ) (given : Option (List ℕ)) (w
 pub record Reports (given : Option (List ℕ)) (written : List ℕ) : Type 0 where
   pub code : Listing
   pub cert : Claimed
-  pub pair : IsPair code cert
-  pub bundle : IfSome given (λ bytes. bytes ≡ text code cert)
+  pub bundle : GivesText given code cert
   pub accepted : IsAccepted code cert
   pub report : IsReport code cert written
 

@@ -1,5 +1,7 @@
 pub mod Sources
 pub mod Forms
+pub mod Seen
+pub mod Bundles
 pub mod Runs
 pub mod Counts
 pub mod Faults

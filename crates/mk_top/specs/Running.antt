@@ -1,21 +1,23 @@
 -- What the steps of a run answer, for the functions that carry them out.
-use Rattle.std.specs.Prelude.{◌≡◌, ◌⊎◌, ℕ, ◌<◌, List, Option, Some, IfSome, length}
+use Rattle.std.specs.Prelude.{◌≡◌, ◌⊎◌, ℕ, ◌<◌, List, Some, IfSome, length}
 use Rattle.mk_base.specs.Outside.{Rose}
 use Rattle.mk_base.specs.Streams.{CameWithin}
 use Rattle.mk_top.specs.declared.fault.Fault.{Fault}
 use Rattle.mk_top.specs.declared.fault.Fault.TheVariants.{Words, Source, ReadFault, WriteFault, Memory, TooLong}
+use Rattle.mk_top.specs.Seen.{Seen}
 use Rattle.mk_words.specs.Words.{Command, Asks, IsNoForm}
 use Rattle.mk_top.specs.Decided.{SourceDecides, TextDecides, limit_of}
 use Rattle.mk_top.specs.Headline.{Makes, TakesWhole, TakesSome}
 use Rattle.mk_top.specs.Because.{ReadWhole, input_of, Reads, IsAnswerOf}
 use Rattle.mk_top.specs.Faults.{status_of}
 
--- why a text was not read, by the input's bytes before and after and its count of faults before and after
-abbrev pub NotRead : ℕ → Option (List ℕ) → Option (List ℕ) → ℕ → ℕ → Fault → Type 0
-NotRead limit given after reads then_reads ReadFault = Rose reads then_reads × IfSome given (λ bytes. CameWithin limit bytes after)
-NotRead limit given after reads then_reads Memory = Unit {0}
-NotRead limit given after reads then_reads (TooLong at) = (at ≡ limit) × IfSome given (λ bytes. limit < length bytes)
-NotRead limit given after reads then_reads _ = ⊥
+-- why a text was not read
+abbrev pub NotRead : ℕ → Seen → Fault → Type 0
+NotRead limit input ReadFault =
+    Rose input.faults input.faults_after × IfSome input.before (λ bytes. CameWithin limit bytes input.after)
+NotRead limit input Memory = Unit {0}
+NotRead limit input (TooLong at) = (at ≡ limit) × IfSome input.before (λ bytes. limit < length bytes)
+NotRead limit input _ = ⊥
 
 -- why there is no typed source: the text spells none, or one with a first offence, or memory was wanted
 abbrev pub NotTyped : List ℕ → Fault → Type 0
@@ -32,60 +34,57 @@ NotMade command bytes Memory = Unit {0}
 NotMade command bytes (TooLong at) = ⊥
 NotMade command bytes fault = TextDecides command bytes (Some fault)
 
--- why a command has no text, by the bytes of its input before and after and its count of faults before and
--- after
-abbrev pub NoText : Command → Option (List ℕ) → Option (List ℕ) → ℕ → ℕ → Fault → Type 0
-NoText command given after reads then_reads Words = ⊥
-NoText command given after reads then_reads ReadFault = Reads command × Rose reads then_reads × IfSome given (λ bytes. CameWithin (limit_of command) bytes after)
-NoText command given after reads then_reads WriteFault = ⊥
-NoText command given after reads then_reads Memory = Unit {0}
-NoText command given after reads then_reads (TooLong at) = Reads command × (at ≡ limit_of command) × IfSome given (λ bytes. limit_of command < length bytes)
-NoText command given after reads then_reads fault =
-    IfSome given (λ bytes. TextDecides command bytes (Some fault)) × ReadWhole (limit_of command) given after × IsAnswerOf command (status_of fault)
+-- why a command has no text of its input
+abbrev pub NoText : Command → Seen → Fault → Type 0
+NoText command input Words = ⊥
+NoText command input ReadFault =
+    Reads command × Rose input.faults input.faults_after
+    × IfSome (input_of command input.before) (λ bytes. CameWithin (limit_of command) bytes (input_of command input.after))
+NoText command input WriteFault = ⊥
+NoText command input Memory = Unit {0}
+NoText command input (TooLong at) =
+    Reads command × (at ≡ limit_of command) × IfSome (input_of command input.before) (λ bytes. limit_of command < length bytes)
+NoText command input fault =
+    IfSome (input_of command input.before) (λ bytes. TextDecides command bytes (Some fault))
+    × ReadWhole (limit_of command) (input_of command input.before) (input_of command input.after)
+    × IsAnswerOf command (status_of fault)
 
 -- the text that a command made of its input, which was read to its end
-pub record Made (command : Command) (given after : Option (List ℕ)) (written : List ℕ) : Type 0 where
-  pub read : ReadWhole (limit_of command) given after
-  pub makes : Makes command given written
+pub record Made (command : Command) (input : Seen) (written : List ℕ) : Type 0 where
+  pub read : ReadWhole (limit_of command) (input_of command input.before) (input_of command input.after)
+  pub makes : Makes command (input_of command input.before) written
 
 -- the same of the command that the words ask for
-abbrev pub IsMade : List (List ℕ) → Option (List ℕ) → Option (List ℕ) → List ℕ → Type 0
-IsMade words given after written =
-    (command : Command) × Asks words command × Made command (input_of command given) (input_of command after) written
+abbrev pub IsMade : List (List ℕ) → Seen → List ℕ → Type 0
+IsMade words input written = (command : Command) × Asks words command × Made command input written
 
 -- why there is no text: the words are no form, or the command that they ask for has none for its input
-abbrev pub IsUnmade : List (List ℕ) → Option (List ℕ) → Option (List ℕ) → ℕ → ℕ → Fault → Type 0
-IsUnmade words given after reads then_reads Words = IsNoForm words
-IsUnmade words given after reads then_reads fault =
-    (command : Command) × Asks words command
-    × NoText command (input_of command given) (input_of command after) reads then_reads fault
+abbrev pub IsUnmade : List (List ℕ) → Seen → Fault → Type 0
+IsUnmade words input Words = IsNoForm words
+IsUnmade words input fault = (command : Command) × Asks words command × NoText command input fault
 
--- a command that was carried out: its input was read to its end, and its text written whole
-pub record Finished (command : Command) (given after before taken : Option (List ℕ)) : Type 0 where
-  pub read : ReadWhole (limit_of command) given after
+-- a command that was carried out: its text was made, and written whole
+pub record Finished (command : Command) (input output : Seen) : Type 0 where
   pub written : List ℕ
-  pub makes : Makes command given written
-  pub whole : TakesWhole before written taken
+  pub made : Made command input written
+  pub whole : TakesWhole output.before written output.after
 
 -- a command whose text was cut by a fault of the output, which counted it
-pub record Cut (command : Command) (given after before taken : Option (List ℕ)) (writes then_writes : ℕ) : Type 0 where
-  pub read : ReadWhole (limit_of command) given after
+pub record Cut (command : Command) (input output : Seen) : Type 0 where
   pub written : List ℕ
-  pub makes : Makes command given written
-  pub some : TakesSome before written taken
-  pub rose : Rose writes then_writes
+  pub made : Made command input written
+  pub some : TakesSome output.before written output.after
+  pub rose : Rose output.faults output.faults_after
 
 -- Why a command stopped: by what its input gave, or by a fault of the output.
-abbrev pub StoppedAt : Command → Option (List ℕ) → Option (List ℕ) → ℕ → ℕ → Option (List ℕ) → Option (List ℕ) → ℕ → ℕ → Fault → Type 0
-StoppedAt command given after reads then_reads before taken writes then_writes WriteFault = Cut command given after before taken writes then_writes
-StoppedAt command given after reads then_reads before taken writes then_writes fault = NoText command given after reads then_reads fault
+abbrev pub StoppedAt : Command → Seen → Seen → Fault → Type 0
+StoppedAt command input output WriteFault = Cut command input output
+StoppedAt command input output fault = NoText command input fault
 
 -- The same of a run: its words are no form, or a command stopped.
-abbrev pub Stopped : List (List ℕ) → Option (List ℕ) → Option (List ℕ) → ℕ → ℕ → Option (List ℕ) → Option (List ℕ) → ℕ → ℕ → Fault → Type 0
-Stopped words given after reads then_reads before taken writes then_writes Words = IsNoForm words
-Stopped words given after reads then_reads before taken writes then_writes fault =
-    (command : Command) × Asks words command
-    × StoppedAt command (input_of command given) (input_of command after) reads then_reads before taken writes then_writes fault
+abbrev pub Stopped : List (List ℕ) → Seen → Seen → Fault → Type 0
+Stopped words input output Words = IsNoForm words
+Stopped words input output fault = (command : Command) × Asks words command × StoppedAt command input output fault
 
 -- a command that was asked for reads its input, or left it as it was
 abbrev pub ReadsOrLeaves : List (List ℕ) → Type 0 → Type 0

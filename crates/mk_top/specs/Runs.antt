@@ -1,15 +1,14 @@
 -- What `run` takes and writes: its whole tape, and the lines of the outputs.
-use Rattle.std.specs.Prelude.{◌≡◌, ℕ, zero, suc, ◌+◌, ◌/◌, List, [], ◌∷◌, ◌++◌, Option, None, IfSome, length, take, drop, codes, decimal, refl}
+use Rattle.std.specs.Prelude.{◌≡◌, ℕ, zero, suc, ◌+◌, ◌/◌, List, [], ◌∷◌, ◌++◌, Option, None, length, take, drop, codes, decimal, refl}
 use Rattle.std.specs.Fmt.{digits}
 use Rattle.hex.specs.Hex.{encode_with}
 use Rattle.mk_field.specs.Sharing.{field_sum}
 use Rattle.mk_code.specs.Listing.{Listing}
 use Rattle.mk_code.specs.Private.{observation, masked_trace}
 use Rattle.mk_rules.specs.Claimed.{Claimed}
-use Rattle.mk_bundle.specs.Text.{text}
-use Rattle.mk_bundle.specs.Pairs.{IsPair}
 use Rattle.mk_run.specs.Refusals.{tape_len, whole_refusal}
 use Rattle.mk_run.specs.Seed.{seed_tape}
+use Rattle.mk_top.specs.Bundles.{GivesText}
 use Rattle.mk_words.specs.Words.{GivenTape, Seed, Tape, elements_word}
 
 -- the whole tape of a run: the elements that are given, or as many of the seed's as the encodings of the secrets
@@ -42,7 +41,6 @@ output_lines-two = refl
 pub record Runs (publics secrets : List ℕ) (tape : GivenTape) (given : Option (List ℕ)) (written : List ℕ) : Type 0 where
   pub code : Listing
   pub cert : Claimed
-  pub pair : IsPair code cert
-  pub bundle : IfSome given (λ bytes. bytes ≡ text code cert)
+  pub bundle : GivesText given code cert
   pub taken : whole_refusal code publics secrets (tape_of code tape) ≡ None
   pub bytes : written ≡ run_text code (masked_trace code publics secrets (tape_of code tape))

@@ -1,16 +1,19 @@
 //! Counts: a bundle read, and the tapes of its code counted in two worlds.
 
-ghost use Rattle.std.specs.Prelude.{◌≡◌, ◌++◌, ◌≤◌, ◌<◌, ◌^◌, Some, IfOk, IfErr, OnOk, length, string_bytes, nat_eq, flat_map};
+ghost use Rattle.std.specs.Prelude.{◌≡◌, ◌++◌, ◌≤◌, ◌<◌, ◌^◌, Some, IfOk, IfErr, OnOk, length};
+ghost use Rattle.std.specs.Prelude.{string_bytes, nat_eq, flat_map};
 ghost use Rattle.std.specs.List.{list_all};
+ghost use Rattle.mk_bundle.specs.declared.TheConstants.{MOST_BYTES};
 ghost use Rattle.mk_words.specs.Words.{Count};
 ghost use Rattle.mk_top.specs.Counts.{Counts, row_line, table_text};
+ghost use Rattle.mk_top.specs.Seen.{seen};
 ghost use Rattle.mk_top.specs.Running.{NotMade, Made, NoText};
 
 use crate::fault::Fault;
 use crate::outputs::bytes_of;
-use crate::reading::{BUNDLE_LIMIT, whole_text};
+use crate::reading::whole_text;
 use mk_base::{Bytes, Memory, Source};
-use mk_bundle::read_bundle;
+use mk_bundle::{MOST_BYTES, read_bundle};
 use mk_run::{Row, count};
 use mk_words::push_elements;
 use std::alloc::Global;
@@ -66,7 +69,7 @@ fn count_of(
     second: &[u8],
     probes: &[u32],
 ) -> Result<Bytes, Fault>
-    requires within { length text.now ≤ 268435456 }
+    requires within { length text.now ≤ MOST_BYTES }
     requires publics { length publics.now < 2 ^ 32 }
     requires first { length first.now < 2 ^ 32 }
     requires second { length second.now < 2 ^ 32 }
@@ -92,11 +95,12 @@ pub(crate) fn counted_text<S: Source>(
     requires first { length first.now < 2 ^ 32 }
     requires second { length second.now < 2 ^ 32 }
     requires probes { length probes.now < 2 ^ 32 }
-    ensures made { IfOk result (Made (Count publics.now first.now second.now probes.now) (S.left src.old) (S.left src.new)) }
+    ensures made { IfOk result (Made (Count publics.now first.now second.now probes.now)
+        (seen S.left S.faults src.old src.new)) }
     ensures unmade { IfErr result (NoText (Count publics.now first.now second.now probes.now)
-        (S.left src.old) (S.left src.new) (S.faults src.old) (S.faults src.new)) }
+        (seen S.left S.faults src.old src.new)) }
     ensures reads { S.faults src.old ≤ S.faults src.new }
 {
-    let text = whole_text(alloc, src, BUNDLE_LIMIT)?;
+    let text = whole_text(alloc, src, MOST_BYTES)?;
     count_of(alloc, text.as_slice(), publics, first, second, probes)
 }

@@ -1,7 +1,6 @@
 //! The lines of a code's outputs, by the entries of a trace.
 
 ghost use Rattle.std.specs.Prelude.{◌≡◌, ◌++◌, ◌∷◌, [], ◌<◌, ◌/◌, OnOk, IfOk, length, string_bytes};
-ghost use Rattle.mk_field.specs.Sharing.{field_sum};
 ghost use Rattle.mk_code.specs.Counting.{AllBelow};
 ghost use Rattle.mk_code.specs.Listing.{trace_len};
 ghost use Rattle.mk_code.specs.Private.{observation};
@@ -10,19 +9,9 @@ ghost use Rattle.mk_top.specs.Runs.{output_line, output_lines, run_text};
 
 use mk_base::{Bytes, Items, Memory};
 use mk_code::Code;
+use mk_share::value_of;
 use mk_words::push_elements;
 use std::alloc::Global;
-
-/// The sum of some elements.
-fn sum_of(elements: &[u8]) -> u8
-    ensures { result ≡ field_sum elements.now }
-{
-    let mut sum = 0;
-    for element in elements {
-        sum ^= *element;
-    }
-    sum
-}
 
 /// Appends the line of an output.
 fn push_output(alloc: Global, text: &mut String, number: usize, shares: &[u8]) -> Result<(), Memory>
@@ -31,7 +20,7 @@ fn push_output(alloc: Global, text: &mut String, number: usize, shares: &[u8]) -
     write!(text, "{number} ")?;
     push_elements(alloc, text, shares)?;
     text.push_str(" ")?;
-    push_elements(alloc, text, &[sum_of(shares)])?;
+    push_elements(alloc, text, &[value_of(shares)])?;
     text.push_str("\n")?;
     Ok(())
 }
@@ -39,7 +28,8 @@ fn push_output(alloc: Global, text: &mut String, number: usize, shares: &[u8]) -
 /// Appends the lines of the outputs, each of which has the next `count` of the shares.
 fn push_outputs(alloc: Global, text: &mut String, count: usize, shares: &[u8]) -> Result<(), Memory>
     requires { 0 < count }
-    ensures { OnOk result (string_bytes text.new ≡ string_bytes text.old ++ output_lines count 0 (length shares.now / count) shares.now) }
+    ensures { OnOk result (string_bytes text.new ≡ string_bytes text.old
+        ++ output_lines count 0 (length shares.now / count) shares.now) }
 {
     let mut rest = shares;
     for number in 0..shares.len() / count {
@@ -67,7 +57,7 @@ pub(crate) fn outputs_text(alloc: Global, code: &Code, entries: &[u8]) -> Result
     requires { length entries.now ≡ trace_len code.now }
     ensures { IfOk result (λ bytes. bytes ≡ run_text code.now entries.now) }
 {
-    let _fits = code.field();
+    code.law();
     let shares = entries_at(alloc, code.outs().as_slice(), entries)?;
     let mut text = String::new(alloc);
     let count = usize::from(code.order()) + 1;
@@ -89,9 +79,5 @@ pub(crate) fn elements_line(alloc: Global, elements: &[u8]) -> Result<Bytes, Mem
 pub(crate) fn bytes_of(text: String) -> Result<Bytes, Memory>
     ensures { IfOk result (λ bytes. bytes ≡ string_bytes text) }
 {
-    let bytes = text.into_bytes();
-    if bytes.len() > u32::MAX as usize {
-        return Err(Memory);
-    }
-    Ok(Items::from_vec(bytes))
+    Items::try_from_vec(text.into_bytes())
 }

@@ -1,19 +1,21 @@
 //! Runs of the code of a bundle.
 
 ghost use Rattle.std.specs.Prelude.{◌≡◌, ◌⊎◌, ◌≤◌, ◌<◌, ◌^◌, Some, None, IfOk, IfErr, length};
+ghost use Rattle.mk_bundle.specs.declared.TheConstants.{MOST_BYTES};
 ghost use Rattle.mk_code.specs.Private.{masked_trace};
 ghost use Rattle.mk_run.specs.Refusals.{whole_refusal};
 ghost use Rattle.mk_run.specs.declared.refusal.RunRefusal.TheVariants as refusal_;
 ghost use Rattle.mk_words.specs.Words.{Run};
 ghost use Rattle.mk_top.specs.Forms.{given_of, IsShort};
 ghost use Rattle.mk_top.specs.Runs.{Runs, tape_of, run_text};
+ghost use Rattle.mk_top.specs.Seen.{seen};
 ghost use Rattle.mk_top.specs.Running.{NotMade, Made, NoText};
 
 use crate::fault::Fault;
 use crate::outputs::outputs_text;
-use crate::reading::{BUNDLE_LIMIT, whole_text};
+use crate::reading::whole_text;
 use mk_base::{Bytes, Source};
-use mk_bundle::read_bundle;
+use mk_bundle::{MOST_BYTES, read_bundle};
 use mk_code::Code;
 use mk_run::{RunRefusal, run_masked, tape_from_seed, tape_len_of};
 use std::alloc::Global;
@@ -38,9 +40,11 @@ fn text_on(
     requires publics { length publics.now < 2 ^ 32 }
     requires secrets { length secrets.now < 2 ^ 32 }
     requires tape { length tape.now < 2 ^ 32 }
-    ensures text { IfOk result (λ bytes. bytes ≡ run_text code.now (masked_trace code.now publics.now secrets.now tape.now)) }
+    ensures text { IfOk result (λ bytes. bytes ≡ run_text code.now
+        (masked_trace code.now publics.now secrets.now tape.now)) }
     ensures taken { IfOk result (λ _. whole_refusal code.now publics.now secrets.now tape.now ≡ None) }
-    ensures refused { IfErr result (λ e. (e ≡ refusal_.Memory) ⊎ (whole_refusal code.now publics.now secrets.now tape.now ≡ Some e)) }
+    ensures refused { IfErr result (λ e. (e ≡ refusal_.Memory)
+        ⊎ (whole_refusal code.now publics.now secrets.now tape.now ≡ Some e)) }
 {
     let entries = run_masked(alloc, code, publics, secrets, tape)?;
     Ok(outputs_text(alloc, code, entries.as_slice())?)
@@ -57,9 +61,12 @@ fn text_of_run(
     requires publics { length publics.now < 2 ^ 32 }
     requires secrets { length secrets.now < 2 ^ 32 }
     requires tape { IsShort tape }
-    ensures text { IfOk result (λ bytes. bytes ≡ run_text code.now (masked_trace code.now publics.now secrets.now (tape_of code.now (given_of tape.entry)))) }
-    ensures taken { IfOk result (λ _. whole_refusal code.now publics.now secrets.now (tape_of code.now (given_of tape.entry)) ≡ None) }
-    ensures refused { IfErr result (λ e. (e ≡ refusal_.Memory) ⊎ (whole_refusal code.now publics.now secrets.now (tape_of code.now (given_of tape.entry)) ≡ Some e)) }
+    ensures text { IfOk result (λ bytes. bytes ≡ run_text code.now
+        (masked_trace code.now publics.now secrets.now (tape_of code.now (given_of tape.entry)))) }
+    ensures taken { IfOk result (λ _. whole_refusal code.now publics.now secrets.now
+        (tape_of code.now (given_of tape.entry)) ≡ None) }
+    ensures refused { IfErr result (λ e. (e ≡ refusal_.Memory)
+        ⊎ (whole_refusal code.now publics.now secrets.now (tape_of code.now (given_of tape.entry)) ≡ Some e)) }
 {
     match tape {
         WholeTape::Seed { seed } => {
@@ -78,7 +85,7 @@ fn run_of(
     secrets: &[u8],
     tape: WholeTape<'_>,
 ) -> Result<Bytes, Fault>
-    requires within { length text.now ≤ 268435456 }
+    requires within { length text.now ≤ MOST_BYTES }
     requires publics { length publics.now < 2 ^ 32 }
     requires secrets { length secrets.now < 2 ^ 32 }
     requires tape { IsShort tape }
@@ -100,11 +107,12 @@ pub(crate) fn ran_text<S: Source>(
     requires publics { length publics.now < 2 ^ 32 }
     requires secrets { length secrets.now < 2 ^ 32 }
     requires tape { IsShort tape }
-    ensures made { IfOk result (Made (Run publics.now secrets.now (given_of tape.entry)) (S.left src.old) (S.left src.new)) }
+    ensures made { IfOk result (Made (Run publics.now secrets.now (given_of tape.entry))
+        (seen S.left S.faults src.old src.new)) }
     ensures unmade { IfErr result (NoText (Run publics.now secrets.now (given_of tape.entry))
-        (S.left src.old) (S.left src.new) (S.faults src.old) (S.faults src.new)) }
+        (seen S.left S.faults src.old src.new)) }
     ensures reads { S.faults src.old ≤ S.faults src.new }
 {
-    let text = whole_text(alloc, src, BUNDLE_LIMIT)?;
+    let text = whole_text(alloc, src, MOST_BYTES)?;
     run_of(alloc, text.as_slice(), publics, secrets, tape)
 }

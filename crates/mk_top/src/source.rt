@@ -1,11 +1,14 @@
 //! Sources: read, typed, and then compiled or evaluated.
 
 ghost use Rattle.std.specs.Prelude.{◌≤◌, ◌<◌, ◌^◌, Some, IfOk, IfErr, length};
+ghost use Rattle.mk_code.specs.declared.TheConstants.{MOST_MAPS};
+ghost use Rattle.mk_parse.specs.declared.TheConstants.{MOST_SOURCE_BYTES};
 ghost use Rattle.mk_base.specs.declared.TheConstants.{TOP_ORDER};
 ghost use Rattle.mk_types.specs.Elements.{maps_of};
 ghost use Rattle.mk_words.specs.Words.{Compile, Eval};
 ghost use Rattle.mk_top.specs.Headline.{CompilesSo, Evaluates};
 ghost use Rattle.mk_top.specs.Sources.{IsSourceOf};
+ghost use Rattle.mk_top.specs.Seen.{seen};
 ghost use Rattle.mk_top.specs.Running.{NotMade, NotTyped, Made, NoText};
 
 use crate::fault::Fault;
@@ -15,15 +18,15 @@ use mk_base::{Bytes, Source};
 use mk_bundle::to_text;
 use mk_compile::compile;
 use mk_eval::eval;
-use mk_parse::parse;
+use mk_parse::{MOST_SOURCE_BYTES, parse};
 use mk_types::{Typed, check_types};
 use std::alloc::Global;
 
 /// The well typed program that a source spells. It has at most 32,768 maps.
 pub(crate) fn typed_source(alloc: Global, source: &[u8]) -> Result<Typed, Fault>
-    requires { length source.now ≤ 1048576 }
+    requires { length source.now ≤ MOST_SOURCE_BYTES }
     ensures typed { IfOk result (IsSourceOf source.now) }
-    ensures maps { IfOk result (λ tree. length (maps_of tree.decls) ≤ 32768) }
+    ensures maps { IfOk result (λ tree. length (maps_of tree.decls) ≤ MOST_MAPS) }
     ensures fault { IfErr result (NotTyped source.now) }
 {
     let tree = parse(alloc, source)?;
@@ -33,7 +36,7 @@ pub(crate) fn typed_source(alloc: Global, source: &[u8]) -> Result<Typed, Fault>
 /// The bundle text that a source is compiled to at an order.
 fn text_of_source(alloc: Global, source: &[u8], order: u8) -> Result<Bytes, Fault>
     requires order { (1 ≤ order) × (order ≤ TOP_ORDER) }
-    requires within { length source.now ≤ 1048576 }
+    requires within { length source.now ≤ MOST_SOURCE_BYTES }
     ensures compiled { IfOk result (CompilesSo order (Some source.now)) }
     ensures fault { IfErr result (NotMade (Compile order) source.now) }
 {
@@ -49,7 +52,7 @@ fn text_of_outputs(
     publics: &[u8],
     secrets: &[u8],
 ) -> Result<Bytes, Fault>
-    requires within { length source.now ≤ 1048576 }
+    requires within { length source.now ≤ MOST_SOURCE_BYTES }
     requires publics { length publics.now < 2 ^ 32 }
     requires secrets { length secrets.now < 2 ^ 32 }
     ensures evaluated { IfOk result (Evaluates publics.now secrets.now (Some source.now)) }
@@ -60,9 +63,6 @@ fn text_of_outputs(
     Ok(elements_line(alloc, outputs.as_slice())?)
 }
 
-/// The most bytes of a source.
-const SOURCE_LIMIT: u32 = 1_048_576;
-
 /// Reads a source to its end, and answers the bundle text that it is compiled to at an order.
 pub(crate) fn compiled_text<S: Source>(
     alloc: Global,
@@ -70,12 +70,11 @@ pub(crate) fn compiled_text<S: Source>(
     order: u8,
 ) -> Result<Bytes, Fault>
     requires { (1 ≤ order) × (order ≤ TOP_ORDER) }
-    ensures made { IfOk result (Made (Compile order) (S.left src.old) (S.left src.new)) }
-    ensures unmade { IfErr result (NoText (Compile order)
-        (S.left src.old) (S.left src.new) (S.faults src.old) (S.faults src.new)) }
+    ensures made { IfOk result (Made (Compile order) (seen S.left S.faults src.old src.new)) }
+    ensures unmade { IfErr result (NoText (Compile order) (seen S.left S.faults src.old src.new)) }
     ensures reads { S.faults src.old ≤ S.faults src.new }
 {
-    let source = whole_text(alloc, src, SOURCE_LIMIT)?;
+    let source = whole_text(alloc, src, MOST_SOURCE_BYTES)?;
     text_of_source(alloc, source.as_slice(), order)
 }
 
@@ -88,11 +87,10 @@ pub(crate) fn evaluated_text<S: Source>(
 ) -> Result<Bytes, Fault>
     requires publics { length publics.now < 2 ^ 32 }
     requires secrets { length secrets.now < 2 ^ 32 }
-    ensures made { IfOk result (Made (Eval publics.now secrets.now) (S.left src.old) (S.left src.new)) }
-    ensures unmade { IfErr result (NoText (Eval publics.now secrets.now)
-        (S.left src.old) (S.left src.new) (S.faults src.old) (S.faults src.new)) }
+    ensures made { IfOk result (Made (Eval publics.now secrets.now) (seen S.left S.faults src.old src.new)) }
+    ensures unmade { IfErr result (NoText (Eval publics.now secrets.now) (seen S.left S.faults src.old src.new)) }
     ensures reads { S.faults src.old ≤ S.faults src.new }
 {
-    let source = whole_text(alloc, src, SOURCE_LIMIT)?;
+    let source = whole_text(alloc, src, MOST_SOURCE_BYTES)?;
     text_of_outputs(alloc, source.as_slice(), publics, secrets)
 }

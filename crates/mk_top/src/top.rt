@@ -6,6 +6,7 @@ ghost use Rattle.mk_words.specs.Words.{Command, Compile, Check, Eval, Run, Count
 ghost use Rattle.mk_words.specs.Words.{Asks, IsForm, IsNoForm};
 ghost use Rattle.mk_words.specs.Forms.{AreElements, AreProbes, IsTapeForm};
 ghost use Rattle.mk_top.specs.declared.fault.Fault.{Fault};
+ghost use Rattle.mk_top.specs.Seen.{seen};
 ghost use Rattle.mk_top.specs.Forms.{OfElements, OfRun, OfCount};
 ghost use Rattle.mk_top.specs.Faults.{status_of, fault_line};
 ghost use Rattle.mk_top.specs.Decided.{Decides, limit_of};
@@ -60,9 +61,9 @@ fn evaluated_on_words<S: Source>(
     requires publics { AreElements publics.now × (length publics.now < 2 ^ 32) }
     requires secrets { AreElements secrets.now × (length secrets.now < 2 ^ 32) }
     ensures made { IfOk result (λ text. OfElements publics.now secrets.now
-        (λ command. Made command (S.left src.old) (S.left src.new) text)) }
+        (λ command. Made command (seen S.left S.faults src.old src.new) text)) }
     ensures unmade { IfErr result (λ fault. OfElements publics.now secrets.now
-        (λ command. NoText command (S.left src.old) (S.left src.new) (S.faults src.old) (S.faults src.new) fault)) }
+        (λ command. NoText command (seen S.left S.faults src.old src.new) fault)) }
     ensures reads { S.faults src.old ≤ S.faults src.new }
 {
     let publics = elements_of(alloc, publics)?;
@@ -83,9 +84,9 @@ fn run_on_words<S: Source>(
     requires secrets { AreElements secrets.now × (length secrets.now < 2 ^ 32) }
     requires tape { IsTapeForm tape }
     ensures made { IfOk result (λ text. OfRun publics.now secrets.now tape.entry
-        (λ command. Made command (S.left src.old) (S.left src.new) text)) }
+        (λ command. Made command (seen S.left S.faults src.old src.new) text)) }
     ensures unmade { IfErr result (λ fault. OfRun publics.now secrets.now tape.entry
-        (λ command. NoText command (S.left src.old) (S.left src.new) (S.faults src.old) (S.faults src.new) fault)) }
+        (λ command. NoText command (seen S.left S.faults src.old src.new) fault)) }
     ensures reads { S.faults src.old ≤ S.faults src.new }
 {
     let publics = elements_of(alloc, publics)?;
@@ -121,9 +122,9 @@ fn counted_on_words<S: Source>(
     requires second { AreElements second.now × (length second.now < 2 ^ 32) }
     requires probes { AreProbes probes.now × (length probes.now < 2 ^ 32) }
     ensures made { IfOk result (λ text. OfCount publics.now first.now second.now probes.now
-        (λ command. Made command (S.left src.old) (S.left src.new) text)) }
+        (λ command. Made command (seen S.left S.faults src.old src.new) text)) }
     ensures unmade { IfErr result (λ fault. OfCount publics.now first.now second.now probes.now
-        (λ command. NoText command (S.left src.old) (S.left src.new) (S.faults src.old) (S.faults src.new) fault)) }
+        (λ command. NoText command (seen S.left S.faults src.old src.new) fault)) }
     ensures reads { S.faults src.old ≤ S.faults src.new }
 {
     let publics = elements_of(alloc, publics)?;
@@ -142,9 +143,9 @@ fn counted_on_words<S: Source>(
 
 /// The text that the command makes which the words ask for. Nothing of it is written yet.
 fn text_asked<S: Source>(alloc: Global, words: &Words, src: &mut S) -> Result<Bytes, Fault>
-    ensures made { IfOk result (IsMade words.now (S.left src.old) (S.left src.new)) }
+    ensures made { IfOk result (IsMade words.now (seen S.left S.faults src.old src.new)) }
     ensures unmade { IfErr result (IsUnmade words.now
-        (S.left src.old) (S.left src.new) (S.faults src.old) (S.faults src.new)) }
+        (seen S.left S.faults src.old src.new)) }
     ensures unread { IfErr result (λ fault. fault ≡ Fault.Words → src.new ≡ src.old) }
     ensures leaves { ReadsOrLeaves words.now (src.new ≡ src.old) }
     ensures reads { S.faults src.old ≤ S.faults src.new }
@@ -185,11 +186,11 @@ fn carry_out<S: Source, O: Sink>(
     out: &mut O,
 ) -> Result<(), Fault>
     ensures finished { OnOk result ((command : Command) × Asks words.now command
-        × Finished command (input_of command (S.left src.old)) (input_of command (S.left src.new))
-        (O.taken out.old) (O.taken out.new)) }
+        × Finished command (seen S.left S.faults src.old src.new)
+        (seen O.taken O.faults out.old out.new)) }
     ensures stopped { IfErr result (Stopped words.now
-        (S.left src.old) (S.left src.new) (S.faults src.old) (S.faults src.new)
-        (O.taken out.old) (O.taken out.new) (O.faults out.old) (O.faults out.new)) }
+        (seen S.left S.faults src.old src.new)
+        (seen O.taken O.faults out.old out.new)) }
     ensures unread { IfErr result (λ fault. fault ≡ Fault.Words → src.new ≡ src.old) }
     ensures leaves { ReadsOrLeaves words.now (src.new ≡ src.old) }
     ensures unwritten { IfErr result (λ fault. fault ≢ Fault.WriteFault → out.new ≡ out.old) }
@@ -282,11 +283,11 @@ pub fn mask_main<S: Source, O: Sink, E: Sink>(
     // Each answer other than `Done` has its cause, of which the fault line tells.
     ensures because { (command : Command) → Asks words.now command → result ≢ Status.Done
         → (fault : Fault) × (status_of fault ≡ result)
-        × Because command (input_of command (S.left src.old)) (input_of command (S.left src.new))
-        (S.faults src.old) (S.faults src.new) (O.faults out.old) (O.faults out.new) fault
-        × Tells fault (E.taken err.old) (E.taken err.new) (E.faults err.old) (E.faults err.new) }
+        × Because command (seen S.left S.faults src.old src.new)
+        (seen O.taken O.faults out.old out.new) fault
+        × Tells fault (seen E.taken E.faults err.old err.new) }
     ensures told { result ≡ Status.Words
-        → Tells Fault.Words (E.taken err.old) (E.taken err.new) (E.faults err.old) (E.faults err.new) }
+        → Tells Fault.Words (seen E.taken E.faults err.old err.new) }
     ensures answers { (command : Command) → Asks words.now command → IsAnswerOf command result }
 
     // And each cause has its answer: where no count of faults rose, the bytes of the input decide it, or

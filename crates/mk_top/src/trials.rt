@@ -10,7 +10,6 @@ use crate::fault::Fault;
 use crate::outputs::bytes_of;
 use crate::source::typed_source;
 use mk_base::{Bytes, Memory};
-use mk_bundle::to_text;
 use mk_code::Code;
 use mk_compile::compile;
 use mk_gen::gen_text;
@@ -63,7 +62,5 @@ pub(crate) fn tried_text(alloc: Global, turns: u32, order: u8) -> Result<Bytes, 
     let source = gen_text(alloc, turns)?;
     let typed = typed_source(alloc, source.as_slice())?;
     let bundle = compile(alloc, &typed, order)?;
-    // The bundle text is made too, as where a source is compiled.
-    to_text(alloc, &bundle.code, &bundle.cert)?;
     Ok(line_of_trial(alloc, &bundle.code, &bundle.cert)?)
 }

@@ -34,23 +34,28 @@ pub names-Lit : (value : ℕ) (at : Place) → names (expr.Lit value at) ≡ []
 unfolding names
 names-Lit value at = ap names (sym (expr_views.rolls-Lit value at)) ∙ fold-roll-Expr (List (List ℕ)) layer_names (Expr-F.Lit value at)
 
+-- a reference has the name of its variable
 pub names-Read : (from : Ref) → names (expr.Read from) ≡ from.name ∷ []
 unfolding names
 names-Read from = ap names (sym (expr_views.rolls-Read from)) ∙ fold-roll-Expr (List (List ℕ)) layer_names (Expr-F.Read from)
 
+-- a square has the names of its argument
 pub names-Sq : (arg : Expr) → names (expr.Sq arg) ≡ names arg
 unfolding names
 names-Sq arg = ap names (sym (expr_views.rolls-Sq arg)) ∙ fold-roll-Expr (List (List ℕ)) layer_names (Expr-F.Sq arg)
 
+-- a map's value has the map's name, and then those of the argument
 pub names-Apply : (name : List ℕ) (at : Place) (arg : Expr) → names (expr.Apply name at arg) ≡ name ∷ names arg
 unfolding names
 names-Apply name at arg = ap names (sym (expr_views.rolls-Apply name at arg)) ∙ fold-roll-Expr (List (List ℕ)) layer_names (Expr-F.Apply name at arg)
 
+-- a sum has those of its parts, in order
 pub names-Sum : (parts : List Expr) → names (expr.Sum parts) ≡ flat_map names parts
 unfolding names
 names-Sum parts =
     ap names (sym (expr_views.rolls-Sum parts)) ∙ fold-roll-Expr (List (List ℕ)) layer_names (Expr-F.Sum parts) ∙ flat_map-map _ _ parts
 
+-- a product has those of its parts, in order
 pub names-Product : (parts : List Expr) → names (expr.Product parts) ≡ flat_map names parts
 unfolding names
 names-Product parts =
@@ -175,6 +180,7 @@ stmt-Set target value s =
     ap (λ t. stmt_offences t s) (sym (stmt_views.rolls-Set target value))
     ∙ ap (λ (f : Scope → List Offence). f s) (fold-roll-Stmt (Scope → List Offence) stmt_layer_offences (Stmt-F.Set target value))
 
+-- a loop has the offences of its name, and then those of its body within the loop
 pub stmt-Loop : (name : List ℕ) (at : Place) (from to : ℕ) (body : List Stmt) (s : Scope) →
     stmt_offences (stmt.Loop name at from to body) s ≡ loop_name_offences s name at ++ flat_map (λ t. stmt_offences t (inside s name)) body
 unfolding stmt_offences

@@ -37,6 +37,7 @@ before_itself a b c (inr h) = absurd (omega arith)
 abbrev IsBefore : Offence → Offence → Type 0
 IsBefore x y = Before x.at.line x.at.column (number x.kind) y.at.line y.at.column (number y.kind)
 
+-- the test of the code decides it
 decides : (x y : Offence) → Decides (is_before x y) (IsBefore x y)
 decides x y =
     Decides-or _ _ (Decides-or _ _ (Decides-ltb x.at.line y.at.line) (Decides-and _ _ (Decides-eqb x.at.line y.at.line) (Decides-ltb x.at.column y.at.column)))

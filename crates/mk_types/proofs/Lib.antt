@@ -7,5 +7,6 @@ pub mod ExecutionLayers
 pub mod MapNumbers
 pub mod RegularParts
 pub mod Faults
+pub mod Sources
 mod Worked
 mod WorkedExecution

@@ -1,19 +1,14 @@
 -- The offences of small programs, worked out by hand.
 use Rattle.std.proofs.Common.{◌≡◌, ℕ, List, [], ◌∷◌, Some, None, refl, codes}
 use Rattle.mk_base.specs.declared.Place.{Place}
-use Rattle.mk_field.specs.declared.field.FieldId.{FieldId}
 use Rattle.mk_field.specs.declared.field.FieldId.TheVariants.{Gf2, Gf256}
-use Rattle.mk_ast.specs.declared.tree.Program.{Program}
 use Rattle.mk_ast.specs.declared.tree.Decl.{Decl}
 use Rattle.mk_ast.specs.declared.tree.What.TheVariants as what
-use Rattle.mk_ast.specs.declared.tree.Class.{Class}
 use Rattle.mk_ast.specs.declared.tree.Class.TheVariants as class_
-use Rattle.mk_ast.specs.declared.tree.Stmt.{Stmt}
 use Rattle.mk_ast.specs.declared.tree.Stmt.TheVariants as stmt
-use Rattle.mk_ast.specs.declared.tree.Ref.{Ref}
 use Rattle.mk_ast.specs.declared.tree.Expr.TheVariants as expr
-use Rattle.mk_ast.specs.declared.tree.Index.{Index}
 use Rattle.mk_ast.specs.declared.tree.Index.TheVariants as index
+use Rattle.mk_types.proofs.Sources.{scalar, array, ref, ref_at, program}
 use Rattle.mk_types.specs.declared.offence.Offence.{Offence}
 use Rattle.mk_types.specs.declared.offence.OffenceKind.{OffenceKind}
 use Rattle.mk_types.specs.declared.offence.OffenceKind.TheVariants as kind_
@@ -21,29 +16,9 @@ use Rattle.mk_types.specs.Noted.{noted}
 use Rattle.mk_types.specs.Offences.{offences}
 use Rattle.mk_types.proofs.Layers.{stmt_layers, expr_layers, index_layers, shared_layers}
 
--- a scalar of this class
-abbrev scalar : Class → List ℕ → Place → Decl
-scalar class name at = record { name = name; at = at; what = what.Var class None }
-
--- an array of this class, with two elements
-abbrev array : Class → List ℕ → Place → Decl
-array class name at = record { name = name; at = at; what = what.Var class (Some 2) }
-
 -- a map with these images
 abbrev map_of : List ℕ → List ℕ → Place → Decl
 map_of images name at = record { name = name; at = at; what = what.Map images }
-
--- a reference without an index
-abbrev ref : List ℕ → Place → Ref
-ref name at = record { name = name; at = at; index = None }
-
--- a reference with an index
-abbrev ref_at : List ℕ → Place → Index → Ref
-ref_at name at i = record { name = name; at = at; index = Some i }
-
--- a program
-abbrev program : FieldId → List Decl → List Stmt → Program
-program field decls body = record { field = field; decls = decls; body = body }
 
 -- one offence
 abbrev here : OffenceKind → Place → Offence
@@ -99,14 +74,14 @@ loop_in_its_like a b c = simp (stmt_layers) refl
 
 -- `field gf2;` `output y;` `output z[2];` `z[y] = y;`
 index_by_a_variable : (a b c d e : Place) → offences (program Gf2
-    (scalar class_.Output (codes "y") a ∷ array class_.Output (codes "z") b ∷ [])
+    (scalar class_.Output (codes "y") a ∷ array class_.Output 2 (codes "z") b ∷ [])
     (stmt.Set (ref_at (codes "z") c (index.Var (codes "y") d)) (expr.Read (ref (codes "y") e)) ∷ [])) ≡ here kind_.Kind d ∷ []
 index_by_a_variable a b c d e = simp (stmt_layers, expr_layers, index_layers) refl
 
 -- `field gf2;` `secret s;` `public p[2];` `local public q;` `q = p[s];`: what stands in an index shares
 -- nothing, so the only offence is that of the index
 shared_in_an_index : (a b c d e f : Place) → offences (program Gf2
-    (scalar class_.Secret (codes "s") a ∷ array class_.Public (codes "p") b ∷ scalar class_.LocalPublic (codes "q") c ∷ [])
+    (scalar class_.Secret (codes "s") a ∷ array class_.Public 2 (codes "p") b ∷ scalar class_.LocalPublic (codes "q") c ∷ [])
     (stmt.Set (ref (codes "q") d) (expr.Read (ref_at (codes "p") e (index.Var (codes "s") f))) ∷ [])) ≡ here kind_.Kind f ∷ []
 shared_in_an_index a b c d e f = simp (stmt_layers, expr_layers, index_layers, shared_layers) refl
 
@@ -123,7 +98,7 @@ variable_as_a_map a b c d = simp (stmt_layers, expr_layers) refl
 
 -- `field gf2;` `output y;` `output z[2];` `y[0] = z;`
 indexes_misplaced : (a b c d : Place) → offences (program Gf2
-    (scalar class_.Output (codes "y") a ∷ array class_.Output (codes "z") b ∷ [])
+    (scalar class_.Output (codes "y") a ∷ array class_.Output 2 (codes "z") b ∷ [])
     (stmt.Set (ref_at (codes "y") c (index.Num 0)) (expr.Read (ref (codes "z") d)) ∷ [])) ≡ here kind_.Kind c ∷ here kind_.Kind d ∷ []
 indexes_misplaced a b c d = simp (stmt_layers, expr_layers, index_layers) refl
 
@@ -132,6 +107,7 @@ element_past_the_field : (a b c : Place) → offences (program Gf2 (scalar class
     (stmt.Set (ref (codes "y") b) (expr.Lit 2 c) ∷ [])) ≡ here kind_.Kind c ∷ []
 element_past_the_field a b c = simp (stmt_layers, expr_layers) refl
 
+-- and over bytes 02 is an element
 element_of_the_field : (a b c : Place) → offences (program Gf256 (scalar class_.Output (codes "y") a ∷ [])
     (stmt.Set (ref (codes "y") b) (expr.Lit 2 c) ∷ [])) ≡ []
 element_of_the_field a b c = simp (stmt_layers, expr_layers) refl
@@ -140,11 +116,14 @@ element_of_the_field a b c = simp (stmt_layers, expr_layers) refl
 abbrev place : ℕ → ℕ → Place
 place line column = record { line = line; column = column }
 
+-- at one place the lesser number comes first, though it is noted last
 least_number : noted None (here kind_.AssignInput (place 3 1) ∷ here kind_.Kind (place 3 1) ∷ []) ≡ Some (here kind_.Kind (place 3 1))
 least_number = refl
 
+-- on one line the lesser column comes first, whatever the numbers
 least_column : noted None (here kind_.Unknown (place 3 5) ∷ here kind_.MapForm (place 3 1) ∷ []) ≡ Some (here kind_.MapForm (place 3 1))
 least_column = refl
 
+-- the lesser line comes first, whatever the columns
 least_line : noted None (here kind_.MapForm (place 2 9) ∷ here kind_.Unknown (place 3 1) ∷ []) ≡ Some (here kind_.MapForm (place 2 9))
 least_line = refl

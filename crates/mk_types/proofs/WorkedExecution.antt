@@ -1,50 +1,20 @@
 -- The units and the meaning of small programs, worked out by hand.
-use Rattle.std.proofs.Common.{◌≡◌, ℕ, true, List, [], ◌∷◌, Some, None, refl, ap, codes, if◌then◌else◌}
+use Rattle.std.proofs.Common.{◌≡◌, true, List, [], ◌∷◌, Some, None, refl, ap, codes, if◌then◌else◌}
 use Rattle.std.specs.Prelude.{nat_le}
 use Rattle.mk_base.specs.declared.Place.{Place}
 use Rattle.mk_field.specs.Field.{sum_bits}
-use Rattle.mk_field.specs.declared.field.FieldId.{FieldId}
 use Rattle.mk_field.specs.declared.field.FieldId.TheVariants.{Gf256}
 use Rattle.mk_ast.specs.declared.tree.Program.{Program}
-use Rattle.mk_ast.specs.declared.tree.Decl.{Decl}
-use Rattle.mk_ast.specs.declared.tree.What.TheVariants as what
-use Rattle.mk_ast.specs.declared.tree.Class.{Class}
 use Rattle.mk_ast.specs.declared.tree.Class.TheVariants as class_
-use Rattle.mk_ast.specs.declared.tree.Stmt.{Stmt}
 use Rattle.mk_ast.specs.declared.tree.Stmt.TheVariants as stmt
-use Rattle.mk_ast.specs.declared.tree.Expr.{Expr}
 use Rattle.mk_ast.specs.declared.tree.Expr.TheVariants as expr
-use Rattle.mk_ast.specs.declared.tree.Index.{Index}
 use Rattle.mk_ast.specs.declared.tree.Index.TheVariants as index
 use Rattle.mk_ast.specs.declared.tree.Link.TheVariants as link
+use Rattle.mk_types.proofs.Sources.{scalar, array, read, read_at, set, program}
 use Rattle.mk_types.specs.Units.{WorkUnit, Step, Operation, Fault, evaluated, units}
 use Rattle.mk_types.specs.Stops.{Work, Operations, Index as IndexStop, work, operations, event, stop}
 use Rattle.mk_types.specs.Meaning.{result}
 use Rattle.mk_types.proofs.ExecutionLayers.{evaluated_layers, expr_units_layers, stmt_units_layers, value_layers, meaning_layers}
-
--- a scalar of this class
-abbrev scalar : Class → List ℕ → Place → Decl
-scalar class name at = record { name = name; at = at; what = what.Var class None }
-
--- an array of this class
-abbrev array : Class → ℕ → List ℕ → Place → Decl
-array class n name at = record { name = name; at = at; what = what.Var class (Some n) }
-
--- what a reference without an index gives
-abbrev read : List ℕ → Place → Expr
-read name at = expr.Read (record { name = name; at = at; index = None })
-
--- what a reference with an index gives
-abbrev read_at : List ℕ → Place → Index → Expr
-read_at name at i = expr.Read (record { name = name; at = at; index = Some i })
-
--- an assignment to a scalar
-abbrev set : List ℕ → Place → Expr → Stmt
-set name at value = stmt.Set (record { name = name; at = at; index = None }) value
-
--- a program
-abbrev program : FieldId → List Decl → List Stmt → Program
-program field decls body = record { field = field; decls = decls; body = body }
 
 -- `5*300%7` is 2, by two operators
 chain_value : (at : Place) → evaluated at [] (index.Chain (index.Num 5) (link.Times (index.Num 300) ∷ link.Mod 7 ∷ []))

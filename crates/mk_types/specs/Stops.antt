@@ -1,5 +1,6 @@
 -- Where execution stops: at the first unit that exceeds a limit or is a fault.
 use Rattle.std.specs.Prelude.{ℕ, Bool, true, false, if◌then◌else◌, nat_le, List, [], ◌∷◌, ◌++◌, Option, Some, None, count_by}
+use Rattle.mk_types.specs.declared.TheConstants.{MOST_WORK, MOST_OPERATIONS}
 use Rattle.mk_base.specs.declared.Place.{Place}
 use Rattle.mk_ast.specs.declared.refusal.SourceRefusal.{SourceRefusal}
 use Rattle.mk_ast.specs.declared.refusal.SourceRefusal.TheVariants as refusal_
@@ -35,10 +36,10 @@ operations us = count_by is_operation us
 
 -- the event that a unit behind these is, if it is one; what exceeds both limits exceeds the work
 abbrev pub event : List WorkUnit → WorkUnit → Option Event
-event before Step = if nat_le 65536 (work before) then Some Work else None
+event before Step = if nat_le MOST_WORK (work before) then Some Work else None
 event before Operation =
-    if nat_le 65536 (work before) then Some Work
-    else if nat_le 16384 (operations before) then Some Operations else None
+    if nat_le MOST_WORK (work before) then Some Work
+    else if nat_le MOST_OPERATIONS (operations before) then Some Operations else None
 event before (Fault at) = Some (Index at)
 
 -- the first of two events

@@ -3,6 +3,7 @@
 -- and turns alone, so that no unit depends on an input. The language is this project's own;
 -- docs/LANGUAGE.md has its execution in words.
 use Rattle.std.specs.Prelude.{ℕ, ◌+◌, ◌*◌, ◌%◌, Bool, true, false, not, nat_lt, List, [], ◌∷◌, ◌++◌, Option, Some, None, fold, flat_map}
+use Rattle.mk_types.specs.declared.TheConstants.{GREATEST_INDEX}
 use Rattle.mk_base.specs.declared.Place.{Place}
 use Rattle.mk_ast.specs.declared.tree.Program.{Program}
 use Rattle.mk_ast.specs.declared.tree.Decl.{Decl}
@@ -40,7 +41,7 @@ pub record Evaluated : Type 0 where
 -- an operator of an index: behind the units of its operand it is a step, and a fault where it gives more
 -- than 65,535
 abbrev pub operator : Place → ℕ → List WorkUnit → Evaluated
-operator at value units = record { value = value; units = units ++ Step ∷ fault_if (nat_lt 65535 value) at }
+operator at value units = record { value = value; units = units ++ Step ∷ fault_if (nat_lt GREATEST_INDEX value) at }
 
 -- what stands so far, and behind it one more operator on it
 abbrev pub behind : Evaluated → (ℕ → Evaluated) → Evaluated

@@ -7,9 +7,8 @@ ghost use Rattle.mk_types.specs.Offences.{when, is_no_map_of, decls_offences};
 
 use crate::found::Found;
 use crate::kinds::is_no_map_of;
-use crate::names::{Names, note_decl};
+use crate::names::Names;
 use crate::offence::OffenceKind;
-use indexmap::IndexMap;
 use mk_ast::Decl;
 use mk_base::Memory;
 use mk_field::FieldId;
@@ -38,11 +37,10 @@ pub(crate) fn check_decls<'a>(
     ensures names { IfOk result (λ names. names ≡ decls.now) }
     ensures found { OnOk result (found.new ≡ noted found.old (decls_offences field [] decls.now)) }
 {
-    let mut table = IndexMap::new(alloc);
-    for decl in decls {
-        let is_taken = table.contains_key(decl.name.as_slice());
+    let names = Names::new(alloc, decls)?;
+    for (number, decl) in decls.iter().enumerate() {
+        let is_taken = names.number(decl.name.as_slice()) < number;
         check_decl(field, found, is_taken, decl);
-        note_decl(&mut table, decl)?;
     }
-    Ok(Names::new(decls, table))
+    Ok(names)
 }

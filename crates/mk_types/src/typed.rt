@@ -49,6 +49,14 @@ impl Typed {
     {
         &self.program
     }
+
+    /// What holds of every such program: it is regular and well typed. It does nothing.
+    pub fn law(&self)
+        ensures regular { IsRegular self.now }
+        ensures typed { IsWellTyped self.now }
+    {
+        let _field = self.program.field;
+    }
 }
 
 /// The program, where it is well typed. Else the refusal is of its first offence, with the place:

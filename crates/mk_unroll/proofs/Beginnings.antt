@@ -6,7 +6,7 @@ use Rattle.std.proofs.lemmas.List.FromFn.{length-map-range_with_len}
 use Rattle.std.proofs.lemmas.List.Sums.{sum_by-append, sum_by-cons}
 use Rattle.mk_field.specs.declared.field.FieldId.{FieldId}
 use Rattle.mk_field.specs.declared.field.FieldId.TheVariants.{Gf2, Gf256}
-use Rattle.mk_field.specs.Field.{bits, size}
+use Rattle.mk_field.specs.Field.{bits, size, HasMapsOnlyInBytes}
 use Rattle.mk_ast.specs.declared.tree.Decl.{Decl}
 use Rattle.mk_ast.specs.declared.tree.What.{What}
 use Rattle.mk_ast.specs.declared.tree.What.TheVariants as what
@@ -16,7 +16,7 @@ use Rattle.mk_ssa.specs.declared.Operand.{Operand}
 use Rattle.mk_ssa.specs.declared.Operand.TheVariants.{Secret, Public, Block}
 use Rattle.mk_ssa.specs.declared.Op.{Op}
 use Rattle.mk_ssa.specs.declared.Op.TheVariants.{Const, Lift}
-use Rattle.mk_ssa.specs.Values.{IsDraft, HasMapsOnlyInBytes}
+use Rattle.mk_ssa.specs.Values.{IsDraft}
 use Rattle.mk_types.specs.Elements.{is_secret_class, is_public_class, size_of, elements_in, elements_among, maps_of}
 use Rattle.mk_types.specs.Environment.{beginning, beginnings}
 use Rattle.mk_types.specs.Offences.{decls_offences}

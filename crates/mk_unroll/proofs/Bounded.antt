@@ -1,20 +1,18 @@
 -- What a program is unrolled to has its meaning, and few values.
-use Rattle.std.proofs.Common.{◌≡◌, ℕ, ◌+◌, ◌*◌, ◌≤◌, List, [], ◌∷◌, None, Result, Ok, Err, IfOk, OnOk, Bool, true, false, length, sym, ap, subst, if◌then◌else◌, arith}
+use Rattle.std.proofs.Common.{◌≡◌, ℕ, ◌+◌, ◌*◌, ◌≤◌, List, [], ◌∷◌, Result, Ok, Err, IfOk, OnOk, true, sym, subst, arith}
 use Rattle.mk_ast.specs.declared.tree.Program.{Program}
 use Rattle.mk_ast.specs.declared.tree.Decl.{Decl}
 use Rattle.mk_ast.specs.declared.tree.What.{What}
 use Rattle.mk_ast.specs.declared.tree.What.TheVariants as what
-use Rattle.mk_ast.specs.declared.tree.Class.{Class}
 use Rattle.mk_ast.specs.declared.tree.Class.TheVariants as class_
 use Rattle.mk_ast.specs.declared.refusal.SourceRefusal.{SourceRefusal}
 use Rattle.mk_ast.specs.Regular.{IsRegular}
 use Rattle.mk_ssa.specs.Values.{Values}
-use Rattle.mk_types.specs.Elements.{is_secret_class, is_public_class, is_output_class, size_of, elements_in, elements_among}
+use Rattle.mk_types.specs.Elements.{is_secret_class, is_public_class, is_output_class, elements_in, elements_among}
 use Rattle.mk_types.specs.Offences.{IsWellTyped}
 use Rattle.mk_unroll.specs.Causes.{HasFewElements, Ends, IsSmall}
 use Rattle.mk_unroll.specs.Meant.{HasMeaning, HasFewValues}
 use Rattle.mk_unroll.specs.Unrolled.{unrolled}
-use Rattle.mk_unroll.specs.ValueCounts.{made}
 use Rattle.mk_unroll.proofs.FirstOperands.{sum_cons}
 use Rattle.mk_unroll.proofs.Unrolls.{unrolled_outs_count, unrolled_result}
 use Rattle.mk_unroll.proofs.Counts.{unrolled_made, unrolled_made_at_most, unrolled_lifts_at_most}

@@ -1,5 +1,5 @@
 -- What is counted of units one behind the other, and what stops among them.
-use Rattle.std.proofs.Common.{◌≡◌, ℕ, ◌+◌, ◌<◌, List, [], ◌∷◌, ◌++◌, Option, Some, None, not, Result, Ok, Err, IsErrAnd, IfErr, inl, inr, map, flat_map, length, take, drop, slice_get, refl, sym, ap, subst, ◌∙◌, append_assoc}
+use Rattle.std.proofs.Common.{◌≡◌, ℕ, ◌+◌, List, [], ◌∷◌, ◌++◌, Option, Some, None, not, Result, Ok, Err, IsErrAnd, IfErr, inl, inr, map, flat_map, take, drop, refl, sym, ap, subst, ◌∙◌, append_assoc}
 use Rattle.std.specs.Prelude.{fold, nat_lt}
 use Rattle.std.proofs.lemmas.List.{append-nil, take-append-drop}
 use Rattle.std.proofs.lemmas.List.Sums.{fold-append}
@@ -17,7 +17,7 @@ use Rattle.mk_ast.specs.declared.tree.Stmt.{Stmt}
 use Rattle.mk_ast.specs.declared.tree.Stmt.TheVariants as stmt
 use Rattle.mk_types.specs.Turns.{Turn, in_turn, turn_numbers}
 use Rattle.mk_types.specs.Elements.{array_size}
-use Rattle.mk_types.specs.Units.{WorkUnit, Step, Operation, Fault, fault_if, Evaluated, behind, plus_part, sum_of_parts, evaluated, linked, element_number, reference_units, parts_units, turn_units, stmt_units}
+use Rattle.mk_types.specs.Units.{WorkUnit, Step, Operation, fault_if, Evaluated, behind, plus_part, sum_of_parts, evaluated, linked, element_number, reference_units, parts_units, turn_units, stmt_units}
 use Rattle.mk_types.proofs.ExecutionLayers.{evaluated-Num, evaluated-Var, evaluated-Sum, evaluated-Chain, linked-Times, linked-Mod, units-Lit, units-Read, units-Sq, units-Apply, units-Sum, units-Product, units-Set, units-Loop}
 use Rattle.mk_unroll.specs.Counted.{Count, one_more, counted, Halts}
 use Rattle.mk_unroll.specs.Running.{turns_units}

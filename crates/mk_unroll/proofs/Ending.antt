@@ -1,5 +1,5 @@
 -- What is counted of all units, and where execution stops.
-use Rattle.std.proofs.Common.{◌≡◌, ℕ, ◌+◌, ◌⊎◌, Bool, true, false, cond, List, [], ◌∷◌, ◌++◌, Option, Some, None, inl, inr, if◌then◌else◌, refl, sym, ap, subst, ◌∙◌, append_assoc, arith}
+use Rattle.std.proofs.Common.{◌≡◌, ℕ, ◌+◌, ◌⊎◌, Bool, true, false, cond, List, [], ◌∷◌, ◌++◌, Some, None, inl, inr, if◌then◌else◌, refl, sym, ap, ◌∙◌, append_assoc, arith}
 use Rattle.std.specs.Prelude.{nat_le}
 use Rattle.std.proofs.lemmas.List.{append-nil}
 use Rattle.std.proofs.lemmas.List.Sums.{sum_by-append}
@@ -18,6 +18,7 @@ none_some x is = absurd (cc)
 work_more : (before : List WorkUnit) (u : WorkUnit) (n : ℕ) → work (u ∷ []) ≡ n → work before + n ≡ work (before ++ u ∷ [])
 work_more before u n one = ap (λ m. work before + m) (sym one) ∙ sym (sum_by-append (λ v. cond (is_work v) 1 0) before (u ∷ []))
 
+-- the operations behind one more unit
 operations_more : (before : List WorkUnit) (u : WorkUnit) (n : ℕ) → operations (u ∷ []) ≡ n → operations before + n ≡ operations (before ++ u ∷ [])
 operations_more before u n one = ap (λ m. operations before + m) (sym one) ∙ sym (sum_by-append (λ v. cond (is_operation v) 1 0) before (u ∷ []))
 

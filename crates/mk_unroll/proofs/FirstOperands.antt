@@ -1,7 +1,7 @@
 -- The elements that declarations make, and what their variables hold first.
-use Rattle.std.proofs.Common.{◌≡◌, ℕ, zero, suc, ◌+◌, ◌≤◌, ◌<◌, Bool, true, false, cond, List, [], ◌∷◌, ◌++◌, length, take, map, get_or, replicate, Option, Some, None, option_to_list, inl, inr, if◌then◌else◌, refl, sym, ap, subst, ◌∙◌, append_assoc, arith}
+use Rattle.std.proofs.Common.{◌≡◌, ℕ, zero, suc, ◌+◌, ◌≤◌, ◌<◌, Bool, true, false, List, [], ◌∷◌, ◌++◌, length, take, map, get_or, replicate, Option, Some, None, option_to_list, if◌then◌else◌, refl, sym, ap, ◌∙◌, append_assoc, arith}
 use Rattle.std.specs.Prelude.{sum_by}
-use Rattle.std.specs.List.{AllByRecursion, range_with_len, cons_option}
+use Rattle.std.specs.List.{range_with_len, cons_option}
 use Rattle.std.proofs.lemmas.List.{append-nil}
 use Rattle.std.proofs.lemmas.List.Elements.{filter_map-append}
 use Rattle.std.proofs.lemmas.List.Sums.{sum_by-append, sum_by-take-le}
@@ -16,7 +16,7 @@ use Rattle.mk_ssa.specs.declared.Operand.TheVariants.{Secret, Public, Block}
 use Rattle.mk_types.specs.Scope.{is_variable}
 use Rattle.mk_types.specs.Elements.{is_secret_class, is_public_class, is_output_class, size_of, elements_in, elements_among, map_in, maps_of}
 use Rattle.mk_types.specs.Environment.{Environment, beginning, output_elements}
-use Rattle.mk_unroll.specs.Beginning.{first_operand, first_operands, first_env}
+use Rattle.mk_unroll.specs.Beginning.{first_operands, first_env}
 
 -- what a declaration behind these holds first
 abbrev pub first_variable : List Decl → What → List Operand
@@ -35,6 +35,7 @@ less_in test (what.Var class n) = by (test class)
     by true = omega arith
     by false = omega arith
 
+-- no class has more elements than all have
 pub less_among : (test : Class → Bool) (ds : List Decl) → elements_among test ds ≤ elements_among (λ class. true) ds
 less_among test [] = omega arith
 less_among test (d ∷ ds) =
@@ -99,6 +100,7 @@ env_append earlier (c ∷ cs) d =
     ap (λ vs. first_variable earlier c.what ∷ vs)
     (env_append (earlier ++ c ∷ []) cs d ∙ ap (λ e. first_env (earlier ++ c ∷ []) cs ++ first_variable e d.what ∷ []) (append_assoc earlier (c ∷ []) cs))
 
+-- what the variables of one more declaration hold first
 pub env_more : (ds : List Decl) (i : ℕ) (d : Decl) → take (i + 1) ds ≡ take i ds ++ d ∷ [] →
     first_env [] (take i ds) ++ first_operands d.what (elements_among is_secret_class (take i ds)) (elements_among is_public_class (take i ds)) ∷ []
     ≡ first_env [] (take (i + 1) ds)
@@ -117,6 +119,7 @@ outs_next (d ∷ ds) (v ∷ vs) (suc i) c same within =
     ap (λ xs. here ++ xs) (outs_next ds vs i c (omega (arith, same)) (omega (arith, within)))
     ∙ sym (append_assoc here (output_elements (take i ds) (take i vs)) _)
 
+-- the outputs with those of the next declaration's variable
 pub outs_more : (ds : List Decl) (env : Environment Operand) (i : ℕ) (d : Decl) → length ds ≡ length env → i < length ds → d ≡ get_or ds i d →
     output_elements (take i ds) (take i env) ++ (if is_variable is_output_class (Some d.what) then get_or env i [] else [])
     ≡ output_elements (take (i + 1) ds) (take (i + 1) env)

@@ -1,5 +1,5 @@
 -- What the variables hold, and what may be read of them.
-use Rattle.std.proofs.Common.{◌≡◌, ℕ, zero, suc, ◌+◌, Bool, true, false, cond, not, List, [], ◌∷◌, Some, None, find, option_map, inr, get_or, set, bytes_eq, refl, sym, ap, subst, ◌∙◌, arith}
+use Rattle.std.proofs.Common.{◌≡◌, ℕ, zero, suc, ◌+◌, Bool, true, false, cond, not, List, [], ◌∷◌, Some, find, option_map, inr, get_or, set, bytes_eq, refl, ap, subst, ◌∙◌, arith}
 use Rattle.std.specs.List.{AllByRecursion}
 use Rattle.mk_ast.specs.declared.tree.Decl.{Decl}
 use Rattle.mk_ast.specs.declared.tree.What.{What}
@@ -13,7 +13,6 @@ use Rattle.mk_types.specs.Elements.{number_of}
 use Rattle.mk_types.specs.Units.{element_number}
 use Rattle.mk_types.specs.Environment.{Environment, element, stored}
 use Rattle.mk_unroll.specs.Kept.{IsThere, Keeps, Gives, IsHeld, AreHeld, Holds}
-use Rattle.mk_unroll.specs.Unrolled.{Given}
 use Rattle.mk_unroll.proofs.Keeping.{there_kept, gives_same}
 
 -- what is held stays held
@@ -22,12 +21,14 @@ held_all_kept a b what [] keeps held = tt
 held_all_kept a b what (x ∷ xs) keeps held =
     (record { there = there_kept a b x keeps held.0.there; shared = λ e. keeps.shared x (held.0.shared e) }, held_all_kept a b what xs keeps held.1)
 
+-- what variables hold is held where more values were appended
 held_kept : (a b : Draft) (decls : List Decl) (env : Environment Operand) → Keeps a b → AreHeld a decls env → AreHeld b decls env
 held_kept a b [] [] keeps held = tt
 held_kept a b [] (v ∷ vs) keeps held = absurd held
 held_kept a b (c ∷ cs) [] keeps held = absurd held
 held_kept a b (c ∷ cs) (v ∷ vs) keeps held = (held_all_kept a b c.what v keeps held.0, held_kept a b cs vs keeps held.1)
 
+-- and all that a draft holds is
 pub holds_kept : (a b : Draft) (decls : List Decl) (env : Environment Operand) → Keeps a b → Holds a decls env → Holds b decls env
 holds_kept a b decls env keeps holds = record { zero = keeps.public (Block 0) holds.zero; held = held_kept a b decls env keeps holds.held }
 
@@ -76,6 +77,7 @@ held_stored d (c ∷ cs) (v ∷ vs) name i x there shared held = by (bytes_eq na
         let next : suc (number_of cs name) ≡ 1 + number_of cs name = omega arith in
         subst (λ (m : ℕ). AreHeld d (c ∷ cs) (stored (v ∷ vs) m i x)) next (held.0, rest here)
 
+-- what is held stays so where one element is changed to an operand that may stand there
 pub holds_stored : (d : Draft) (decls : List Decl) (env : Environment Operand) (name : List ℕ) (i : ℕ) (x : Operand) → IsThere d x →
     (is_variable is_shared_class (declared decls name) ≡ true → IsSharedThere d x) → Holds d decls env → Holds d decls (stored env (number_of decls name) i x)
 holds_stored d decls env name i x there shared holds = record { zero = holds.zero; held = held_stored d decls env name i x there shared holds.held }

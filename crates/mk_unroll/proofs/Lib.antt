@@ -12,7 +12,6 @@ pub mod Unrolls
 pub mod Bounded
 pub mod Counting
 pub mod Finding
-pub mod Naming
 pub mod Storing
 pub mod Keeping
 pub mod Holding

@@ -1,6 +1,6 @@
 -- What holds at the outset and of the outputs: first operands are there, maps are of bytes, and outputs are
 -- shared.
-use Rattle.std.proofs.Common.{◌≡◌, ℕ, zero, suc, ◌+◌, ◌≤◌, ◌<◌, Bool, true, false, not, List, [], ◌∷◌, ◌++◌, length, map, replicate, Some, inl, inr, if◌then◌else◌, refl, sym, ap, subst, ◌∙◌, true≢false, arith, rules}
+use Rattle.std.proofs.Common.{◌≡◌, ℕ, zero, suc, ◌+◌, ◌≤◌, ◌<◌, Bool, true, false, not, List, [], ◌∷◌, ◌++◌, length, map, replicate, Some, inl, inr, if◌then◌else◌, refl, sym, ap, true≢false, arith}
 use Rattle.std.specs.List.{AllByRecursion, range_with_len, cons_option}
 use Rattle.std.proofs.lemmas.Bool.{eqb-true}
 use Rattle.std.proofs.lemmas.List.Sums.{sum_by-append}
@@ -12,13 +12,14 @@ use Rattle.mk_ast.specs.declared.tree.What.TheVariants as what
 use Rattle.mk_ast.specs.declared.tree.Class.TheVariants as class_
 use Rattle.mk_ssa.specs.declared.Operand.{Operand}
 use Rattle.mk_ssa.specs.declared.Operand.TheVariants.{Secret, Public, Block}
-use Rattle.mk_ssa.specs.Values.{Draft, IsSharedThere, IsPublicThere, HasMapsOnlyInBytes}
+use Rattle.mk_ssa.specs.Values.{Draft, IsSharedThere, IsPublicThere}
+use Rattle.mk_field.specs.Field.{HasMapsOnlyInBytes}
 use Rattle.mk_types.specs.Scope.{is_variable, is_shared_class}
 use Rattle.mk_types.specs.Elements.{is_secret_class, is_public_class, is_output_class, size_of, elements_in, elements_among, map_in, maps_of}
 use Rattle.mk_types.specs.Offences.{is_no_map_of, decls_offences}
 use Rattle.mk_types.specs.Environment.{Environment, output_elements}
 use Rattle.mk_unroll.specs.Beginning.{first_env, first_draft, HasEight}
-use Rattle.mk_unroll.specs.Kept.{IsThere, IsHeld, AreHeld, Holds}
+use Rattle.mk_unroll.specs.Kept.{IsHeld, AreHeld, Holds}
 use Rattle.mk_unroll.proofs.FirstOperands.{first_variable, sum_cons}
 use Rattle.mk_unroll.proofs.Typed.{nil_left, nil_right, when_none}
 
@@ -38,10 +39,12 @@ eight_in Gf256 (what.Map images) is = eqb-true (length images) 8 (by _ is)
     by false e = absurd (true≢false e)
 eight_in field (what.Var class n) is = tt
 
+-- so has each of these declarations
 eight_all : (field : FieldId) (ds : List Decl) → AllByRecursion (λ d. is_no_map_of field d.what ≡ false) ds → AllByRecursion (λ d. HasEight d.what) ds
 eight_all field [] all = tt
 eight_all field (d ∷ ds) all = (eight_in field d.what all.0, eight_all field ds all.1)
 
+-- and each of declarations without an offence
 pub eight : (field : FieldId) (ds : List Decl) → decls_offences field [] ds ≡ [] → AllByRecursion (λ d. HasEight d.what) ds
 eight field ds is = eight_all field ds (no_map field [] ds is)
 
@@ -54,6 +57,7 @@ no_maps (d ∷ ds) all = by d.what all.0 (no_maps ds all.1)
     by (what.Map images) is rest = absurd (true≢false is)
     by (what.Var class n) is rest = rest
 
+-- the maps of declarations without an offence are maps of bytes
 pub only_bytes : (field : FieldId) (ds : List Decl) → decls_offences field [] ds ≡ [] → HasMapsOnlyInBytes field (maps_of ds)
 only_bytes Gf2 ds is = no_maps ds (no_map Gf2 [] ds is)
 only_bytes Gf256 ds is = tt
@@ -126,6 +130,7 @@ output_shared (what.Var class_.Output n) is = refl
 output_shared (what.Var class_.LocalSecret n) is = refl
 output_shared (what.Var class_.LocalPublic n) is = is
 
+-- what the outputs hold is shared
 pub outs_shared : (d : Draft) (ds : List Decl) (env : Environment Operand) → AreHeld d ds env → AllByRecursion (IsSharedThere d) (output_elements ds env)
 outs_shared d [] [] held = tt
 outs_shared d [] (v ∷ vs) held = absurd held

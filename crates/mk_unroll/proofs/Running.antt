@@ -22,9 +22,9 @@ use Rattle.mk_types.specs.Environment.{Environment, stored}
 use Rattle.mk_types.specs.Units.{WorkUnit, Step, element_number, stmt_units}
 use Rattle.mk_types.proofs.ExecutionLayers.{units-Set}
 use Rattle.mk_unroll.specs.Counted.{Count, counted, Halts}
-use Rattle.mk_unroll.specs.Kept.{IsThere, Gives, Holds, Becomes}
-use Rattle.mk_unroll.specs.Running.{body_unrolled, turns_unrolled, turns_units}
-use Rattle.mk_unroll.specs.Unrolled.{Given, Unrolling, assigned, assignment_unrolled, stmt_unrolled}
+use Rattle.mk_unroll.specs.Kept.{Gives, Holds, Becomes}
+use Rattle.mk_unroll.specs.Running.{body_unrolled, turns_unrolled}
+use Rattle.mk_unroll.specs.Unrolled.{Unrolling, assigned, assignment_unrolled, stmt_unrolled}
 use Rattle.mk_unroll.proofs.Counting.{units_loop, halts_within, counted_append}
 use Rattle.mk_unroll.proofs.Holding.{holds_kept, holds_stored}
 use Rattle.mk_unroll.proofs.UnrolledLayers.{unrolled-Loop}

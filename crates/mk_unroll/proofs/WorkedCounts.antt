@@ -14,10 +14,12 @@ affine_made : made affine ≡ 3
 unfolding affine
 affine_made = refl
 
+-- the lift of zero is the only one
 affine_lifts : lifts affine ≡ 1
 unfolding affine
 affine_lifts = refl
 
+-- the constants are zero and 63
 affine_constants : constants affine ≡ 2
 unfolding affine
 affine_constants = refl
@@ -31,10 +33,12 @@ public_made : made public ≡ 2
 unfolding public
 public_made = refl
 
+-- the lifts are those of zero and of the public product
 public_lifts : lifts public ≡ 2
 unfolding public
 public_lifts = refl
 
+-- the constants are zero and 02
 public_constants : constants public ≡ 2
 unfolding public
 public_constants = refl

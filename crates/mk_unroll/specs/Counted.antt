@@ -1,5 +1,6 @@
 -- What is counted of units as execution goes on, up to the event that stops it.
 use Rattle.std.specs.Prelude.{◌≡◌, ◌⊎◌, ℕ, ◌+◌, if◌then◌else◌, nat_le, List, Option, Some, None, fold}
+use Rattle.mk_types.specs.declared.TheConstants.{MOST_WORK, MOST_OPERATIONS}
 use Rattle.mk_ast.specs.declared.refusal.SourceRefusal.{SourceRefusal}
 use Rattle.mk_ast.specs.declared.refusal.SourceRefusal.TheVariants as refusal_
 use Rattle.mk_types.specs.Units.{WorkUnit, Step, Operation, Fault}
@@ -21,13 +22,13 @@ stopped c e = record { work = c.work; operations = c.operations; stop = Some e }
 
 -- one more step
 abbrev pub one_step : Count → Count
-one_step c = if nat_le 65536 c.work then stopped c Work else record { work = c.work + 1; operations = c.operations; stop = None }
+one_step c = if nat_le MOST_WORK c.work then stopped c Work else record { work = c.work + 1; operations = c.operations; stop = None }
 
 -- one more operation
 abbrev pub one_operation : Count → Count
 one_operation c =
-    if nat_le 65536 c.work then stopped c Work
-    else if nat_le 16384 c.operations then stopped c Operations
+    if nat_le MOST_WORK c.work then stopped c Work
+    else if nat_le MOST_OPERATIONS c.operations then stopped c Operations
     else record { work = c.work + 1; operations = c.operations + 1; stop = None }
 
 -- one more unit, where nothing has stopped execution

@@ -3,7 +3,6 @@ pub mod ValueCounts
 pub mod Counted
 pub mod Walked
 pub mod Kept
-pub mod Numbers
 pub mod Joints
 pub mod Joining
 pub mod Running

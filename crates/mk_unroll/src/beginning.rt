@@ -2,11 +2,13 @@
 
 ghost use Rattle.std.specs.Prelude.{◌≡◌, ◌≤◌, ◌<◌, ◌+◌, ◌^◌, [], ◌++◌, true, length, option_to_list, OnOk, IfOk, IfErr};
 ghost use Rattle.std.specs.List.{AllByRecursion};
+ghost use Rattle.mk_unroll.specs.declared.TheConstants.{MOST_ELEMENTS};
 ghost use Rattle.mk_ast.specs.declared.refusal.SourceRefusal.TheVariants as refusal_;
 ghost use Rattle.mk_ast.specs.declared.refusal.Limit.TheVariants as limit_;
 ghost use Rattle.mk_types.specs.Elements.{is_secret_class, is_public_class, elements_in, elements_among, map_in, maps_of};
 ghost use Rattle.mk_unroll.specs.Beginning.{first_operand, first_operands, first_env, HasEight};
 
+use crate::MOST_ELEMENTS;
 use crate::elements::{elements_in, size_of};
 use crate::variables::Variables;
 use mk_ast::{Class, Decl, Limit, SourceRefusal, What};
@@ -15,13 +17,10 @@ use mk_field::AddMap;
 use mk_ssa::{MapList, Operand};
 use std::alloc::Global;
 
-/// The most declared elements.
-const MOST_ELEMENTS: u64 = 65_536;
-
 /// Refuses more than 65,536 declared elements.
 pub fn check_elements(decls: &[Decl]) -> Result<(), SourceRefusal>
-    ensures few { OnOk result (elements_among (λ class. true) decls.now ≤ 65536) }
-    ensures many { IfErr result (λ e. (e ≡ refusal_.Large limit_.Elements) × (65536 < elements_among (λ class. true) decls.now)) }
+    ensures few { OnOk result (elements_among (λ class. true) decls.now ≤ MOST_ELEMENTS) }
+    ensures many { IfErr result (λ e. (e ≡ refusal_.Large limit_.Elements) × (MOST_ELEMENTS < elements_among (λ class. true) decls.now)) }
 {
     let mut elements = 0;
     for decl in decls {
@@ -43,8 +42,8 @@ pub struct Inputs {
 impl Inputs {
     /// With those of one more declaration.
     fn with(self, what: &What) -> Inputs
-        requires secrets { self.secrets + elements_in (λ class. true) what.now ≤ 65536 }
-        requires publics { self.publics + elements_in (λ class. true) what.now ≤ 65536 }
+        requires secrets { self.secrets + elements_in (λ class. true) what.now ≤ MOST_ELEMENTS }
+        requires publics { self.publics + elements_in (λ class. true) what.now ≤ MOST_ELEMENTS }
         ensures secrets { result.secrets ≡ self.secrets + elements_in is_secret_class what.now }
         ensures publics { result.publics ≡ self.publics + elements_in is_public_class what.now }
     {
@@ -70,7 +69,7 @@ impl Inputs {
 
 /// How many secrets and public inputs these declarations make.
 pub fn inputs_of(decls: &[Decl]) -> Inputs
-    requires { elements_among (λ class. true) decls.now ≤ 65536 }
+    requires { elements_among (λ class. true) decls.now ≤ MOST_ELEMENTS }
     ensures secrets { result.secrets ≡ elements_among is_secret_class decls.now }
     ensures publics { result.publics ≡ elements_among is_public_class decls.now }
 {
@@ -86,9 +85,9 @@ pub fn inputs_of(decls: &[Decl]) -> Inputs
 
 /// Element k of a variable, behind these inputs.
 fn first_operand(class: Class, inputs: Inputs, k: u32) -> Operand
-    requires secrets { inputs.secrets ≤ 65536 }
-    requires publics { inputs.publics ≤ 65536 }
-    requires index { k < 65536 }
+    requires secrets { inputs.secrets ≤ MOST_ELEMENTS }
+    requires publics { inputs.publics ≤ MOST_ELEMENTS }
+    requires index { k < MOST_ELEMENTS }
     ensures { result ≡ first_operand class inputs.secrets inputs.publics k }
 {
     match class {
@@ -101,9 +100,9 @@ fn first_operand(class: Class, inputs: Inputs, k: u32) -> Operand
 
 /// The elements of a declaration behind these inputs.
 fn first_operands(alloc: Global, what: &What, inputs: Inputs) -> Result<Vec<Operand>, Memory>
-    requires secrets { inputs.secrets ≤ 65536 }
-    requires publics { inputs.publics ≤ 65536 }
-    requires few { elements_in (λ class. true) what.now ≤ 65536 }
+    requires secrets { inputs.secrets ≤ MOST_ELEMENTS }
+    requires publics { inputs.publics ≤ MOST_ELEMENTS }
+    requires few { elements_in (λ class. true) what.now ≤ MOST_ELEMENTS }
     ensures { IfOk result (λ v. v.items ≡ first_operands what.now inputs.secrets inputs.publics) }
 {
     let mut operands = Vec::new(alloc);
@@ -118,7 +117,7 @@ fn first_operands(alloc: Global, what: &What, inputs: Inputs) -> Result<Vec<Oper
 
 /// What the variables hold first.
 pub(crate) fn first_variables(alloc: Global, decls: &[Decl]) -> Result<Variables, Memory>
-    requires { elements_among (λ class. true) decls.now ≤ 65536 }
+    requires { elements_among (λ class. true) decls.now ≤ MOST_ELEMENTS }
     ensures { IfOk result (λ v. v ≡ first_env [] decls.now) }
 {
     let mut variables = Variables::new(alloc);
@@ -157,14 +156,11 @@ fn push_map(maps: &mut MapList, what: &What) -> Result<(), Memory>
 /// The maps in order of declaration.
 pub(crate) fn maps_in_order(alloc: Global, decls: &[Decl]) -> Result<MapList, Memory>
     requires { AllByRecursion (λ d. HasEight d.what) decls.now }
-    ensures maps { IfOk result (λ maps. maps ≡ maps_of decls.now) }
-    ensures small { IfOk result (λ maps. length maps < 2 ^ 32) }
+    ensures { IfOk result (λ maps. maps ≡ maps_of decls.now) }
 {
     let mut maps = Items::new(alloc);
     for decl in decls {
         push_map(&mut maps, &decl.what)?;
     }
-    // A list has fewer than 2^32 items.
-    let _count = maps.len();
     Ok(maps)
 }

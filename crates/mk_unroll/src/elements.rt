@@ -1,7 +1,7 @@
 //! The elements that declarations make.
 
-ghost use Rattle.std.specs.Prelude.{◌≡◌, ◌≤◌, true, length, option_to_list};
-ghost use Rattle.mk_types.specs.Elements.{size_of, elements_in, map_in};
+ghost use Rattle.std.specs.Prelude.{◌≡◌, true};
+ghost use Rattle.mk_types.specs.Elements.{size_of, elements_in};
 
 use mk_ast::What;
 
@@ -22,16 +22,5 @@ pub(crate) fn elements_in(what: &What) -> u32
     match what {
         What::Map { .. } => 0,
         What::Var { size, .. } => size_of(*size),
-    }
-}
-
-/// How many maps a declaration makes.
-pub(crate) fn maps_in(what: &What) -> u32
-    ensures maps { result ≡ length (option_to_list (map_in what.now)) }
-    ensures one { result ≤ 1 }
-{
-    match what {
-        What::Map { .. } => 1,
-        What::Var { .. } => 0,
     }
 }

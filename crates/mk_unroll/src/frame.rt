@@ -6,10 +6,11 @@ ghost use Rattle.mk_unroll.specs.Counted.{counted, Halts};
 
 use crate::indexes::number_of;
 use crate::meter::Meter;
-use crate::names::Names;
+use crate::names::array_size;
 use crate::turns::Turns;
 use crate::variables::Variables;
 use mk_ast::{Ref, SourceRefusal};
+use mk_types::Names;
 
 /// The names of the program, the turns around and what the variables hold.
 #[derive(Drop)]
@@ -34,7 +35,7 @@ pub(crate) fn element(
         return Ok(0);
     };
     let number = number_of(&frame.turns, meter, reference.at, index)?;
-    if number >= frame.names.array_size(reference.name.as_slice()) {
+    if number >= array_size(&frame.names, reference.name.as_slice()) {
         return Err(meter.fault(reference.at));
     }
     Ok(number as usize)

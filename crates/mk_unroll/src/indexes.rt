@@ -1,6 +1,7 @@
 //! The numbers of indexes.
 
 ghost use Rattle.std.specs.Prelude.{◌≡◌, ◌+◌, ◌∷◌, nat_lt, map, OnOk, IfOk, IfErr};
+ghost use Rattle.mk_types.specs.declared.TheConstants.{GREATEST_INDEX};
 ghost use Rattle.mk_types.specs.Units.{Step, fault_if, evaluated, linked, sum_of_parts};
 ghost use Rattle.mk_unroll.specs.Counted.{counted, Halts};
 ghost use Rattle.mk_unroll.specs.Walked.{linked_parts};
@@ -37,8 +38,8 @@ pub(crate) fn number_of(
 /// The sum of two numbers of an index.
 fn plus(meter: &mut Meter, at: Place, left: u32, right: u32) -> Result<u32, SourceRefusal>
     ensures value { IfOk result (λ v. v ≡ left + right) }
-    ensures ok { OnOk result (meter.new ≡ counted meter.old (Step ∷ fault_if (nat_lt 65535 (left + right)) at)) }
-    ensures halted { IfErr result (λ e. Halts e (counted meter.old (Step ∷ fault_if (nat_lt 65535 (left + right)) at))) }
+    ensures ok { OnOk result (meter.new ≡ counted meter.old (Step ∷ fault_if (nat_lt GREATEST_INDEX (left + right)) at)) }
+    ensures halted { IfErr result (λ e. Halts e (counted meter.old (Step ∷ fault_if (nat_lt GREATEST_INDEX (left + right)) at))) }
 {
     meter.operator(at, u64::from(left) + u64::from(right))
 }

@@ -1,21 +1,14 @@
 //! What is counted of a source that is executed.
 
 ghost use Rattle.std.specs.Prelude.{◌≡◌, None, [], ◌∷◌, nat_lt, OnOk, IfOk, IfErr};
+ghost use Rattle.mk_types.specs.declared.TheConstants.{GREATEST_INDEX};
 ghost use Rattle.mk_types.specs.Units.{Step, Operation, Fault, fault_if};
 ghost use Rattle.mk_unroll.specs.Counted.{nothing, counted, Halts};
 
 use mk_ast::{Limit, SourceRefusal};
 use mk_base::Place;
+use mk_types::{GREATEST_INDEX, MOST_OPERATIONS, MOST_WORK};
 use std::marker::Model;
-
-/// The most units of work.
-const MOST_WORK: u32 = 65_536;
-
-/// The most operations on elements.
-const MOST_OPERATIONS: u32 = 16_384;
-
-/// The greatest number at an operator of an index.
-const GREATEST_INDEX: u64 = 65_535;
 
 /// The units of work so far, and the operations on elements among them. Contracts see it as what is
 /// counted where nothing has stopped execution.
@@ -101,8 +94,8 @@ impl Meter {
     #[tactic(auto, using(crate::proofs::Counting::halts_on))]
     pub(crate) fn operator(&mut self, at: Place, value: u64) -> Result<u32, SourceRefusal>
         ensures value { IfOk result (λ v. v ≡ value) }
-        ensures ok { OnOk result (self.new ≡ counted self.old (Step ∷ fault_if (nat_lt 65535 value) at)) }
-        ensures halted { IfErr result (λ e. Halts e (counted self.old (Step ∷ fault_if (nat_lt 65535 value) at))) }
+        ensures ok { OnOk result (self.new ≡ counted self.old (Step ∷ fault_if (nat_lt GREATEST_INDEX value) at)) }
+        ensures halted { IfErr result (λ e. Halts e (counted self.old (Step ∷ fault_if (nat_lt GREATEST_INDEX value) at))) }
     {
         self.step()?;
         if value > GREATEST_INDEX {

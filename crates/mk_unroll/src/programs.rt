@@ -1,23 +1,24 @@
 //! The values that a program is unrolled to.
 
-ghost use Rattle.std.specs.Prelude.{◌≡◌, ◌⊎◌, ◌≤◌, ◌<◌, ◌+◌, ◌*◌, ◌^◌, true, [], ◌∷◌, length, OnOk, IfOk, IfErr};
+ghost use Rattle.std.specs.Prelude.{◌≡◌, ◌⊎◌, ◌≤◌, ◌<◌, ◌+◌, ◌*◌, ◌^◌, true, [], ◌∷◌, OnOk, IfOk, IfErr};
+ghost use Rattle.mk_unroll.specs.declared.TheConstants.{MOST_ELEMENTS, MOST_SIZE};
 ghost use Rattle.mk_base.specs.declared.TheConstants.{TOP_ORDER};
 ghost use Rattle.mk_ast.specs.declared.refusal.SourceRefusal.TheVariants as refusal_;
 ghost use Rattle.mk_ast.specs.declared.refusal.Limit.TheVariants as limit_;
 ghost use Rattle.mk_ssa.specs.declared.Operand.TheVariants.{Block};
 ghost use Rattle.mk_ssa.specs.declared.Op.TheVariants.{Const, Lift};
-ghost use Rattle.mk_ssa.specs.Values.{HasMapsOnlyInBytes};
-ghost use Rattle.mk_types.specs.Elements.{elements_among, maps_of};
+ghost use Rattle.mk_field.specs.Field.{HasMapsOnlyInBytes};
+ghost use Rattle.mk_types.specs.Elements.{elements_among};
 ghost use Rattle.mk_types.specs.Offences.{IsWellTyped, decls_offences};
 ghost use Rattle.mk_unroll.specs.Beginning.{first_env, first_draft};
 ghost use Rattle.mk_unroll.specs.Causes.{HasFewElements, Ends, IsSmall, Cause};
 ghost use Rattle.mk_unroll.specs.Meant.{HasMeaning, HasFewValues};
 ghost use Rattle.mk_unroll.specs.Unrolled.{unrolled};
 
+use crate::MOST_SIZE;
 use crate::beginning::{Inputs, check_elements, first_variables, inputs_of, maps_in_order};
 use crate::frame::Frame;
 use crate::meter::Meter;
-use crate::names::Names;
 use crate::outputs::outputs;
 use crate::statements::execute_all;
 use crate::turns::Turns;
@@ -25,16 +26,13 @@ use mk_ast::{Decl, Limit, Program, SourceRefusal, Stmt};
 use mk_base::Memory;
 use mk_field::FieldId;
 use mk_ssa::{MapList, Op, Ssa, SsaBuilder};
-use mk_types::Typed;
+use mk_types::{Names, Typed};
 use std::alloc::Global;
-
-/// The most that the operations times the square of the number of shares may be.
-const MOST_SIZE: u64 = 1_000_000;
 
 /// Refuses a size of more than 1,000,000.
 fn check_size(operations: u32, order: u8) -> Result<(), SourceRefusal>
-    ensures small { OnOk result (operations * ((order + 1) * (order + 1)) ≤ 1000000) }
-    ensures large { IfErr result (λ e. (e ≡ refusal_.Large limit_.Size) × (1000000 < operations * ((order + 1) * (order + 1)))) }
+    ensures small { OnOk result (operations * ((order + 1) * (order + 1)) ≤ MOST_SIZE) }
+    ensures large { IfErr result (λ e. (e ≡ refusal_.Large limit_.Size) × (MOST_SIZE < operations * ((order + 1) * (order + 1)))) }
 {
     let shares = u64::from(order) + 1;
     if u64::from(operations) * (shares * shares) > MOST_SIZE {
@@ -61,10 +59,9 @@ fn first_two(
 
 /// The values before the first statement.
 fn first_values(alloc: Global, field: FieldId, decls: &[Decl]) -> Result<SsaBuilder, Memory>
-    requires few { elements_among (λ class. true) decls.now ≤ 65536 }
+    requires few { elements_among (λ class. true) decls.now ≤ MOST_ELEMENTS }
     requires typed { decls_offences field [] decls.now ≡ [] }
-    ensures values { IfOk result (λ b. b ≡ first_draft field decls.now) }
-    ensures small { IfOk result (λ b. length b.maps < 2 ^ 32) }
+    ensures { IfOk result (λ b. b ≡ first_draft field decls.now) }
 {
     let maps = maps_in_order(alloc, decls)?;
     first_two(alloc, field, inputs_of(decls), maps)
@@ -72,8 +69,7 @@ fn first_values(alloc: Global, field: FieldId, decls: &[Decl]) -> Result<SsaBuil
 
 /// What the first statement stands in.
 fn first_frame<'a>(alloc: Global, decls: &'a [Decl]) -> Result<Frame<'a>, Memory>
-    requires few { elements_among (λ class. true) decls.now ≤ 65536 }
-    requires small { length (maps_of decls.now) < 2 ^ 32 }
+    requires { elements_among (λ class. true) decls.now ≤ MOST_ELEMENTS }
     ensures { IfOk result (λ f. f ≡ record { names = decls.now; turns = []; variables = first_env [] decls.now }) }
 {
     Ok(Frame {

@@ -14,6 +14,7 @@ ghost use Rattle.mk_unroll.specs.Unrolled.{assignment_unrolled, stmt_unrolled};
 use crate::expressions::operand_of;
 use crate::frame::{Frame, element};
 use crate::meter::Meter;
+use crate::names::is_shared;
 use crate::operators::lift_if;
 use mk_ast::{Expr, Ref, SourceRefusal, Stmt};
 use mk_ssa::SsaBuilder;
@@ -38,7 +39,7 @@ fn assign(
     let given = operand_of(frame, meter, values, value)?;
     let index = element(frame, meter, target)?;
     let name = target.name.as_slice();
-    let operand = lift_if(values, frame.names.is_shared(name), given)?;
+    let operand = lift_if(values, is_shared(&frame.names, name), given)?;
     let number = frame.names.number(name);
     frame.variables.write(number, index, operand);
     Ok(())

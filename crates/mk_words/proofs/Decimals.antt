@@ -12,7 +12,8 @@ use Rattle.std.specs.Str.{IsUtf8}
 use Rattle.std.proofs.lemmas.List.Elements.{All-nil, All-cons, All-head, All-tail, All-map, All-weaker, All-get_or, All-from_all_within}
 use Rattle.std.proofs.lemmas.List.Splits.{slice_split_none, slice_split_at, length-slice_split, join_with_byte-slice_split}
 use Rattle.mk_words.specs.Words.{probes_word, SaysProbes, IsTurns}
-use Rattle.mk_words.specs.Forms.{AreProbes, IsNumber}
+use Rattle.mk_words.specs.Forms.{AreProbes}
+use Rattle.mk_words.specs.Numbers.{IsNumber}
 
 -- the parts of a word between its commas
 abbrev pub parts : List ℕ → List (List ℕ)

@@ -30,6 +30,7 @@ same-digits c = one-of (nat_le 65 c && nat_le c 70) (nat_le 97 c && nat_le c 102
 to-hex : (word : List ℕ) → AllPass is_ascii_hexdigit word → AllPass is_hex_digit word
 to-hex word digits = All-weaker (λ c. is_ascii_hexdigit c ≡ true) (λ c. is_hex_digit c ≡ true) (λ c digit. sym (same-digits c) ∙ digit) word digits
 
+-- and the other way round
 from-hex : (word : List ℕ) → AllPass is_hex_digit word → AllPass is_ascii_hexdigit word
 from-hex word digits = All-weaker (λ c. is_hex_digit c ≡ true) (λ c. is_ascii_hexdigit c ≡ true) (λ c digit. same-digits c ∙ digit) word digits
 

@@ -1,5 +1,5 @@
 -- What the words ask for, with the words of elements as they stand.
-use Rattle.std.specs.Prelude.{◌≡◌, ◌<◌, ◌^◌, ℕ, List, [], ◌∷◌, length, codes, decimal}
+use Rattle.std.specs.Prelude.{◌≡◌, ◌<◌, ◌^◌, ℕ, List, [], ◌∷◌, length, codes}
 use Rattle.mk_words.specs.declared.command.Form.{Form}
 use Rattle.mk_words.specs.declared.command.Form.TheVariants as form
 use Rattle.mk_words.specs.Words.{Compile, Check, Report, Gen, Trial, SaysElements, SaysSeed, SaysProbes, Asks}
@@ -9,10 +9,6 @@ use Rattle.mk_words.specs.declared.command.TapeForm.TheVariants as tape_
 -- the word says some elements
 abbrev pub AreElements : List ℕ → Type 0
 AreElements word = (elements : List ℕ) × SaysElements word elements
-
--- the word is a decimal number below 2^32
-abbrev pub IsNumber : List ℕ → Type 0
-IsNumber word = (number : ℕ) × (word ≡ decimal number) × (number < 2 ^ 32)
 
 -- the word says some probes
 abbrev pub AreProbes : List ℕ → Type 0

@@ -40,7 +40,7 @@ pub fn elements_of(alloc: Global, word: &[u8]) -> Result<Bytes, Memory>
         return Ok(Items::new(alloc));
     }
     match hex::decode(alloc, word) {
-        Ok(elements) => Ok(Items::from_vec(elements)),
+        Ok(elements) => Items::try_from_vec(elements),
         Err(FromHexError::OutOfMemory) => Err(Memory),
         // The word's digits are hexadecimal, and an even number of them.
         Err(_) => unreachable!(),

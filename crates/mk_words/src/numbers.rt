@@ -2,7 +2,8 @@
 
 ghost use Rattle.std.specs.Prelude.{◌≡◌, ◌↔◌, ◌<◌, ◌^◌, ℕ, IsTrue, IfSome, IfNone, IfOk, decimal};
 ghost use Rattle.mk_words.specs.Words.{SaysProbes};
-ghost use Rattle.mk_words.specs.Forms.{AreProbes, IsNumber};
+ghost use Rattle.mk_words.specs.Forms.{AreProbes};
+ghost use Rattle.mk_words.specs.Numbers.{IsNumber};
 
 use itoa::Buffer;
 use mk_base::{Items, Memory};

@@ -1,7 +1,8 @@
 -- What is appended for the blocks so far, which fit.
 use Rattle.std.proofs.Common.{◌≡◌, ◌++◌, take, flat_map, string_bytes}
 use Rattle.std.specs.List.{AllByRecursion}
-use Rattle.mk_lines.specs.CertLines.{op_line, OpFits}
+use Rattle.mk_lines.specs.CertLines.{op_line}
+use Rattle.mk_ssa.specs.Widths.{OpFits}
 use Rattle.mk_bundle.proofs.text.push_blocks.Given as goal
 
 abbrev pub invariant-loop-op : goal.invariant-loop-op

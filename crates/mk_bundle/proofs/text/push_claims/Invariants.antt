@@ -1,7 +1,7 @@
 -- What is appended for the claims so far, which fit.
 use Rattle.std.proofs.Common.{◌≡◌, ◌++◌, take, flat_map, string_bytes}
 use Rattle.std.specs.List.{AllByRecursion}
-use Rattle.mk_lines.specs.Words.{OperandFits}
+use Rattle.mk_ssa.specs.Widths.{OperandFits}
 use Rattle.mk_lines.specs.CertLines.{claim_line}
 use Rattle.mk_bundle.proofs.text.push_claims.Given as goal
 

@@ -1,7 +1,8 @@
 -- What is appended for the maps so far, which fit.
 use Rattle.std.proofs.Common.{◌≡◌, ◌++◌, take, flat_map, string_bytes}
 use Rattle.std.specs.List.{AllByRecursion}
-use Rattle.mk_lines.specs.CodeLines.{map_line, MapFits}
+use Rattle.mk_lines.specs.CodeLines.{map_line}
+use Rattle.mk_field.specs.Maps.{MapFits}
 use Rattle.mk_bundle.proofs.text.push_maps.Given as goal
 
 abbrev pub invariant-loop-map : goal.invariant-loop-map

@@ -13,7 +13,7 @@ emit_refresh-requires g c =
     let n : ℕ = g.row.N in
     let fresh : IsFresh c.new-builder.result n (1 * n) =
     fresh-from c.new-builder.result n 1 (n - 1) c.new-builder.result.spare c.new.result c.new-builder.ensures (omega (arith, c.requires.shares.0)) in
-    (search rules, (c.requires.shares.0, (fresh.order, (omega (arith, ap length fresh.none, refresh-few n c.requires.shares.1), bank-below _ 0 n c.bank_at.result.regs c.bank_at.ensures (omega (arith, fresh.len))))))
+    (search rules, (c.requires.shares.0, (fresh.order, (omega (arith, ap length fresh.none, refresh-few n c.requires.shares.1), bank-below _ 0 n c.from_first.result.regs c.from_first.ensures (omega (arith, fresh.len))))))
 
 pub finish-requires : goal.finish-requires
 finish-requires g c =
@@ -21,7 +21,7 @@ finish-requires g c =
     let fresh : IsFresh c.new-builder.result n (1 * n) =
     fresh-from c.new-builder.result n 1 (n - 1) c.new-builder.result.spare c.new.result c.new-builder.ensures (omega (arith, c.requires.shares.0)) in
     let size : n * 1 ≡ 1 * n = omega arith in
-    alone-whole c.new-builder.result c.emit_refresh.new.builder n (1 * n) c.bank_at.result.regs c.in_ok-bank.bank.regs (refresh_gadget n) fresh (one-range n c.bank_at.result.regs c.bank_at.ensures) c.in_ok-bank.ensures.emitted
+    alone-whole c.new-builder.result c.emit_refresh.new.builder n (1 * n) c.from_first.result.regs c.in_ok-bank.bank.regs (refresh_gadget n) fresh (one-range n c.from_first.result.regs c.from_first.ensures) c.in_ok-bank.ensures.emitted
     c.requires.shares.0 c.requires.shares.1
     (subst (λ (b : ℕ). AllBelow (b + length (refresh_gadget n).instrs) (refresh_gadget n).outs) size (refresh-template Gf2 [] n).within)
     (refresh-template Gf2 [] n).count c.from_vec.result (c.from_vec.ensures ∙ c.in_ok-outs.ensures.items)
@@ -32,7 +32,7 @@ returns-clause-instrs g c =
     let fresh : IsFresh c.new-builder.result n (1 * n) =
     fresh-from c.new-builder.result n 1 (n - 1) c.new-builder.result.spare c.new.result c.new-builder.ensures (omega (arith, c.requires.shares.0)) in
     ap (λ (code : Listing). code.instrs) c.finish.ensures
-    ∙ alone-instrs c.new-builder.result c.emit_refresh.new.builder n (1 * n) c.bank_at.result.regs c.in_ok-bank.bank.regs (refresh_gadget n) fresh (one-range n c.bank_at.result.regs c.bank_at.ensures) c.in_ok-bank.ensures.emitted
+    ∙ alone-instrs c.new-builder.result c.emit_refresh.new.builder n (1 * n) c.from_first.result.regs c.in_ok-bank.bank.regs (refresh_gadget n) fresh (one-range n c.from_first.result.regs c.from_first.ensures) c.in_ok-bank.ensures.emitted
 
 pub returns-clause-outs : goal.returns-clause-outs
 returns-clause-outs g c =
@@ -41,4 +41,4 @@ returns-clause-outs g c =
     fresh-from c.new-builder.result n 1 (n - 1) c.new-builder.result.spare c.new.result c.new-builder.ensures (omega (arith, c.requires.shares.0)) in
     ap (λ (code : Listing). code.outs) c.finish.ensures
     ∙ c.from_vec.ensures ∙ c.in_ok-outs.ensures.items
-    ∙ alone-outs c.new-builder.result c.emit_refresh.new.builder n (1 * n) c.bank_at.result.regs c.in_ok-bank.bank.regs (refresh_gadget n) fresh (one-range n c.bank_at.result.regs c.bank_at.ensures) c.in_ok-bank.ensures.emitted
+    ∙ alone-outs c.new-builder.result c.emit_refresh.new.builder n (1 * n) c.from_first.result.regs c.in_ok-bank.bank.regs (refresh_gadget n) fresh (one-range n c.from_first.result.regs c.from_first.ensures) c.in_ok-bank.ensures.emitted

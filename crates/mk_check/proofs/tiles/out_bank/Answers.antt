@@ -3,29 +3,29 @@ use Rattle.std.proofs.Common.{◌≡◌, ℕ, List, [], ◌∷◌, ◌++◌, map
 use Rattle.std.proofs.lemmas.List.{take_all, map-append}
 use Rattle.std.proofs.lemmas.Option.{slice_get_within, get_or_from_slice_get}
 use Rattle.mk_gadget.specs.Gadget.{placement}
-use Rattle.mk_gadget.specs.Template.{built_in}
-use Rattle.mk_gadget.proofs.AddTemplate.{AllBelow-at}
+use Rattle.mk_code.proofs.Steps.{AllBelow-at}
+use Rattle.mk_check.specs.Gadgets.{template_of, far}
 use Rattle.mk_check.proofs.Lists.{take-next, slice_get_none-past}
 use Rattle.mk_check.proofs.tiles.out_bank.Goals as goal
 
 pub placed-requires : goal.placed-requires
 placed-requires c =
-    let there : slice_get (built_in c.args.templates.now c.args.op.now).outs c.loop-out.share ≡ Some c.in-Some.out = sym c.share_place.ensures ∙ c.in-Some.is in
+    let there : slice_get (template_of c.args.templates.now c.args.op.now).outs c.loop-out.share ≡ Some c.in-Some.out = sym c.share_place.ensures ∙ c.in-Some.is in
     omega (
       arith,
       c.requires.base,
-      AllBelow-at 16777216 (built_in c.args.templates.now c.args.op.now).outs c.loop-out.share c.requires.outs
-          (slice_get_within (built_in c.args.templates.now c.args.op.now).outs c.loop-out.share c.in-Some.out there),
-      get_or_from_slice_get (built_in c.args.templates.now c.args.op.now).outs c.loop-out.share c.in-Some.out 0 there,
+      AllBelow-at far (template_of c.args.templates.now c.args.op.now).outs c.loop-out.share c.requires.outs
+          (slice_get_within (template_of c.args.templates.now c.args.op.now).outs c.loop-out.share c.in-Some.out there),
+      get_or_from_slice_get (template_of c.args.templates.now c.args.op.now).outs c.loop-out.share c.in-Some.out 0 there,
     )
 
 pub loop-out-smaller : goal.loop-out-smaller
 loop-out-smaller c =
-    omega (arith, slice_get_within (built_in c.args.templates.now c.args.op.now).outs c.loop-out.share c.in-Some.out (sym c.share_place.ensures ∙ c.in-Some.is))
+    omega (arith, slice_get_within (template_of c.args.templates.now c.args.op.now).outs c.loop-out.share c.in-Some.out (sym c.share_place.ensures ∙ c.in-Some.is))
 
 pub loop-out-preserved : goal.loop-out-preserved
 loop-out-preserved c =
-    let outs : List ℕ = (built_in c.args.templates.now c.args.op.now).outs in
+    let outs : List ℕ = (template_of c.args.templates.now c.args.op.now).outs in
     let to : ℕ → ℕ = placement c.args.reads.now c.args.base in
     let there : slice_get outs c.loop-out.share ≡ Some c.in-Some.out = sym c.share_place.ensures ∙ c.in-Some.is in
     record {
@@ -39,6 +39,6 @@ loop-out-preserved c =
 
 pub returns : goal.returns
 returns c =
-    let outs : List ℕ = (built_in c.args.templates.now c.args.op.now).outs in
+    let outs : List ℕ = (template_of c.args.templates.now c.args.op.now).outs in
     c.loop-out.invariant.bank
     ∙ ap (map (placement c.args.reads.now c.args.base)) (take_all c.loop-out.share outs (slice_get_none-past outs c.loop-out.share (sym c.share_place.ensures ∙ c.in_default.is)))

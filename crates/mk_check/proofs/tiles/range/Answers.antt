@@ -1,6 +1,6 @@
 -- One more place.
 use Rattle.std.proofs.Common.{◌++◌, ◌∷◌, [], ℕ, List, ap, sym, ◌∙◌, ◌+◌}
-use Rattle.mk_gadget.proofs.Emitting.{range-more}
+use Rattle.mk_share.proofs.Banks.{range-more}
 use Rattle.mk_check.proofs.tiles.range.Goals as goal
 
 pub loop-k-preserved : goal.loop-k-preserved

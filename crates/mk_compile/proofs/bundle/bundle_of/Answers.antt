@@ -3,6 +3,8 @@ use Rattle.std.proofs.Common.{◌≡◌, ◌∙◌, ap, subst, sym}
 use Rattle.mk_code.specs.Listing.{Listing}
 use Rattle.mk_rules.specs.Accepts.{IsAccepted}
 use Rattle.mk_rules.proofs.BuiltIn.{accepted_built_in-private}
+use Rattle.mk_rules.proofs.Pairing.{accepted-pair}
+use Rattle.mk_rules.specs.Shape.{Shape}
 use Rattle.mk_compile.specs.Emitting.{bare, code_of}
 use Rattle.mk_compile.proofs.Wires.{parts-wired, parts-bare, code-accepted}
 use Rattle.mk_compile.proofs.bundle.bundle_of.Goals as goal
@@ -18,8 +20,13 @@ returns-clause-accepted c =
     ≡ bare c.args.s.now.field c.args.order c.args.s.now.secrets c.args.s.now.publics c.args.s.now.maps =
     parts-bare c.args.s.now c.args.order c.field.result c.secrets.result c.publics.result c.in_ok-maps.maps
     c.field.ensures c.secrets.ensures c.publics.ensures (c.in_ok-maps.ensures ∙ c.maps.ensures) in
-    subst (λ (x : Listing). IsAccepted x c.args.cert) (sym (c.in_ok-code.ensures ∙ ap (λ (x : Listing). code_of x c.args.cert) same))
+    subst (λ (x : Listing). IsAccepted x c.args.cert) (sym (c.in_ok-code.ensures ∙ ap (λ (x : Shape). code_of x c.args.cert) same))
     (code-accepted c.args.order c.args.s.now c.args.cert c.requires.wired c.requires.claims c.requires.undoubled)
 
 pub returns-clause-private : goal.returns-clause-private
-returns-clause-private c = accepted_built_in-private c.in_ok-code.code c.args.cert c.images_law.ensures (returns-clause-accepted c)
+returns-clause-private c = accepted_built_in-private c.in_ok-code.code c.args.cert c.law-2.ensures.images (returns-clause-accepted c)
+
+pub returns-clause-pair : goal.returns-clause-pair
+returns-clause-pair c =
+    accepted-pair c.in_ok-code.code c.args.cert c.law-2.ensures.fits c.law-2.ensures.fits.order.1 c.law-2.ensures.maps (returns-clause-accepted c)
+    c.requires.few_blocks c.requires.few_claims

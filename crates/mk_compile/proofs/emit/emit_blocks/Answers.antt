@@ -2,12 +2,12 @@
 use Rattle.std.proofs.Common.{rules, arith, ℕ, List, ◌+◌, ◌++◌, [], length, take, slice_index_or, subst, sym, ap, refl, ◌∙◌}
 use Rattle.mk_code.specs.Draft.{Draft, draft_len}
 use Rattle.mk_code.specs.declared.instr.Instr.{Instr}
-use Rattle.mk_code.specs.Listing.{Listing}
 use Rattle.mk_ssa.specs.declared.Op.{Op}
 use Rattle.mk_ssa.specs.declared.Op.TheVariants.{Const}
 use Rattle.mk_gadget.specs.Gadget.{placed}
 use Rattle.mk_gadget.specs.Emitted.{Emitted}
 use Rattle.mk_gadget.specs.Template.{built_in}
+use Rattle.mk_rules.specs.Shape.{Shape}
 use Rattle.mk_compile.specs.declared.places.Place.{Place}
 use Rattle.mk_compile.specs.Emitting.{bare_of}
 use Rattle.mk_compile.specs.Places.{HasOperands, ArePlaced, AreBefore, bank_at, places_read}
@@ -22,7 +22,7 @@ loop-op-init g c = record {
 
 pub emit-requires : goal.emit-requires
 emit-requires g c =
-    let code : Listing = bare_of g.F.Field.ID c.args.builder.now in
+    let shape : Shape = bare_of g.F.Field.ID c.args.builder.now in
     let now : Draft = c.loop-op.builder in
     let same = c.loop-op.invariant.same in
     let so = c.loop-op.invariant.placed in
@@ -30,11 +30,11 @@ emit-requires g c =
     let blocks : List Op = c.args.blocks.now in
     let op : Op = slice_index_or blocks k (Const 0) in
     let there : HasOperands c.args.inputs.secrets c.args.inputs.publics (length now.maps) c.loop-op.places.items op =
-    operands-next code c.requires.order blocks k (Const 0) c.args.inputs.secrets c.args.inputs.publics (length now.maps) now.instrs c.loop-op.places.items c.loop-op-test.true c.requires.wired
+    operands-next shape c.requires.order blocks k (Const 0) c.args.inputs.secrets c.args.inputs.publics (length now.maps) now.instrs c.loop-op.places.items c.loop-op-test.true c.requires.wired
     c.requires.secrets c.requires.publics (ap (λ (d : Draft). length d.maps) same) so in
     let before : AreBefore (draft_len now) c.loop-op.places.items =
     subst (λ (b : ℕ). AreBefore b c.loop-op.places.items) (sym (ap draft_len same))
-    (before-placed code c.requires.order (take k blocks) now.instrs c.loop-op.places.items (wired-front code c.requires.order [] blocks k c.requires.wired) so) in (
+    (before-placed shape c.requires.order (take k blocks) now.instrs c.loop-op.places.items (wired-front shape c.requires.order [] blocks k c.requires.wired) so) in (
       search rules,
       (
         c.requires.shares,
@@ -47,9 +47,9 @@ emit-requires g c =
               (
                 c.requires.inputs,
                 (
-                  omega (arith, c.requires.few, room code c.requires.order blocks k (Const 0) op now.instrs c.loop-op-test.true refl so.laid),
+                  omega (arith, c.requires.few, room shape c.requires.order blocks k (Const 0) op now.instrs c.loop-op-test.true refl so.laid),
                   (
-                    constant-there code c.requires.order (take k blocks) op (wired-next code c.requires.order blocks k (Const 0) c.loop-op-test.true c.requires.wired),
+                    constant-there shape c.requires.order (take k blocks) op (wired-next shape c.requires.order blocks k (Const 0) c.loop-op-test.true c.requires.wired),
                     (
                       subst (λ (ps : List (Place g.row.N)). HasOperands c.args.inputs.secrets c.args.inputs.publics (length now.maps) ps op) (sym c.as_slice.ensures.value) there,
                       subst (AreBefore (draft_len now)) (sym c.as_slice.ensures.value) before,
@@ -65,7 +65,7 @@ emit-requires g c =
 
 pub loop-op-preserved : goal.loop-op-preserved
 loop-op-preserved g c =
-    let code : Listing = bare_of g.F.Field.ID c.args.builder.now in
+    let shape : Shape = bare_of g.F.Field.ID c.args.builder.now in
     let now : Draft = c.loop-op.builder in
     let next : Draft = c.emit.new.builder in
     let same = c.loop-op.invariant.same in
@@ -74,17 +74,17 @@ loop-op-preserved g c =
     let blocks : List Op = c.args.blocks.now in
     let op : Op = slice_index_or blocks k (Const 0) in
     let places : List (Place g.row.N) = c.loop-op.places.items in
-    let there : HasOperands code.secrets code.publics (length code.maps) places op =
-    operands-next code c.requires.order blocks k (Const 0) code.secrets code.publics (length code.maps) now.instrs places c.loop-op-test.true c.requires.wired refl refl refl so in
-    let emitted : Emitted now next (places_read code.secrets places op) (built_in g.row.N op) (bank_at c.in_ok-place.place) =
-    subst (λ (ps : List (Place g.row.N)). Emitted now next (places_read code.secrets ps op) (built_in g.row.N op) (bank_at c.in_ok-place.place)) c.as_slice.ensures.value
+    let there : HasOperands shape.secrets shape.publics (length shape.maps) places op =
+    operands-next shape c.requires.order blocks k (Const 0) shape.secrets shape.publics (length shape.maps) now.instrs places c.loop-op-test.true c.requires.wired refl refl refl so in
+    let emitted : Emitted now next (places_read shape.secrets places op) (built_in g.row.N op) (bank_at c.in_ok-place.place) =
+    subst (λ (ps : List (Place g.row.N)). Emitted now next (places_read shape.secrets ps op) (built_in g.row.N op) (bank_at c.in_ok-place.place)) c.as_slice.ensures.value
     (subst (λ (s : ℕ). Emitted now next (places_read s c.as_slice.result.now op) (built_in g.row.N op) (bank_at c.in_ok-place.place)) c.requires.secrets c.in_ok-place.ensures.emitted) in
     record {
       same = emitted.code
-          ∙ ap (λ (d : Draft). record d { instrs = d.instrs ++ placed (places_read code.secrets places op) (draft_len now) (built_in g.row.N op); spare = next.spare }) same
+          ∙ ap (λ (d : Draft). record d { instrs = d.instrs ++ placed (places_read shape.secrets places op) (draft_len now) (built_in g.row.N op); spare = next.spare }) same
           ∙ ap (λ (is : List Instr). record c.args.builder.now { instrs = is; spare = next.spare }) (sym (ap (λ (d : Draft). d.instrs) emitted.code));
-      placed = subst (λ (ps : List (Place g.row.N)). ArePlaced code (take (k + 1) blocks) next.instrs ps) (sym c.in_ok-push.ensures.items)
-          (placed-more code c.requires.order blocks k (Const 0) op now next places c.in_ok-place.place c.loop-op-test.true refl (ap draft_len same) emitted
+      placed = subst (λ (ps : List (Place g.row.N)). ArePlaced shape (take (k + 1) blocks) next.instrs ps) (sym c.in_ok-push.ensures.items)
+          (placed-more shape c.requires.order blocks k (Const 0) op now next places c.in_ok-place.place c.loop-op-test.true refl (ap draft_len same) emitted
           c.in_ok-place.ensures.kind there so);
     }
 

@@ -5,7 +5,7 @@ use Rattle.mk_code.specs.declared.instr.Instr.{Instr}
 use Rattle.mk_code.specs.declared.instr.Instr.TheVariants as instr
 use Rattle.mk_code.specs.Draft.{draft_len}
 use Rattle.mk_gadget.specs.Template.{public_addition}
-use Rattle.mk_gadget.proofs.AddTemplate.{AllBelow-at}
+use Rattle.mk_code.proofs.Steps.{AllBelow-at}
 use Rattle.mk_gadget.proofs.Emitting.{Emitting-start, Emitting-length, Emitting-fits, Emitting-more, Emitting-all}
 use Rattle.mk_gadget.proofs.Values.{public_addition-row, public_addition-placed, public_addition-gives, outs-behind, bank-and-one, public_addition-later}
 use Rattle.mk_gadget.proofs.Steady.{public_addition-steady}

@@ -4,7 +4,7 @@ use Rattle.std.proofs.lemmas.List.{length-replicate}
 use Rattle.mk_code.specs.declared.instr.Instr.TheVariants as instr
 use Rattle.mk_code.specs.Draft.{draft_len}
 use Rattle.mk_gadget.specs.Template.{mapping}
-use Rattle.mk_gadget.proofs.AddTemplate.{AllBelow-at}
+use Rattle.mk_code.proofs.Steps.{AllBelow-at}
 use Rattle.mk_gadget.proofs.Emitting.{Emitting-start, Emitting-length, Emitting-fits, Emitting-more, Emitting-all}
 use Rattle.mk_gadget.proofs.Values.{mapping-row, mapping-placed, mapping-gives, outs-behind}
 use Rattle.mk_gadget.proofs.Steady.{mapping-steady}

@@ -3,7 +3,7 @@ use Rattle.std.proofs.Common.{arith, ◌≡◌, ℕ, ◌≤◌, ◌+◌, length,
 use Rattle.mk_code.specs.declared.instr.Instr.TheVariants as instr
 use Rattle.mk_code.specs.Draft.{Draft, draft_len}
 use Rattle.mk_gadget.specs.Product.{product_gadget}
-use Rattle.mk_gadget.proofs.AddTemplate.{AllBelow-at}
+use Rattle.mk_code.proofs.Steps.{AllBelow-at}
 use Rattle.mk_gadget.proofs.ProductRun.{cell_place-below}
 use Rattle.mk_gadget.proofs.ProductRows.{length-product}
 use Rattle.mk_gadget.proofs.StrongValues.{product-gives}

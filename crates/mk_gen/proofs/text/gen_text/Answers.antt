@@ -1,15 +1,12 @@
--- The text is short, and spells a program.
-use Rattle.std.proofs.Common.{◌<◌, ◌++◌, length, sym, ap, subst, ◌∙◌}
-use Rattle.mk_gen.specs.Generated.{generated}
-use Rattle.mk_gen.proofs.Lines.{generated_short}
+-- The text spells a program.
+use Rattle.std.proofs.Common.{◌≡◌}
+use Rattle.std.proofs.lemmas.Result.{IfOk-weaker}
+use Rattle.mk_ast.specs.declared.tree.Program.{Program}
+use Rattle.mk_gen.specs.Generated.{IsGenerated}
 use Rattle.mk_gen.proofs.Spelled.{generated_program}
 use Rattle.mk_gen.proofs.text.gen_text.Goals as goal
 
-pub from_vec-requires : goal.from_vec-requires
-from_vec-requires c =
-    subst (λ text. length text < 4294967296)
-    (sym (ap (λ v. v.items) c.into_bytes.ensures.value ∙ c.in_ok-push_text.ensures ∙ ap (λ t. t ++ generated c.args.n) c.new-text.ensures.bytes))
-    (generated_short c.args.n c.requires.few)
-
 pub returns-clause-program : goal.returns-clause-program
-returns-clause-program c = generated_program c.args.n c.requires.few
+returns-clause-program c =
+    IfOk-weaker c.try_from_vec.result (λ list. list ≡ c.into_bytes.result.items) (λ list. (p : Program) × IsGenerated c.args.n p)
+    (λ list same. generated_program c.args.n c.requires.few) c.try_from_vec.ensures.ok

@@ -1,7 +1,7 @@
 -- What is appended for the images so far, which are bytes.
 use Rattle.std.proofs.Common.{◌≡◌, ◌<◌, ◌++◌, take, flat_map, string_bytes}
 use Rattle.std.specs.List.{AllByRecursion}
-use Rattle.mk_lines.specs.Words.{hex_byte}
+use Rattle.mk_field.specs.Digits.{hex_byte}
 use Rattle.mk_lines.proofs.lines.push_images.Given as goal
 
 abbrev pub invariant-loop-image : goal.invariant-loop-image

@@ -1,14 +1,13 @@
 -- Each value is laid behind those before it.
-use Rattle.std.proofs.Common.{◌≡◌, ◌<◌, ◌+◌, ◌-◌, ◌∷◌, ◌++◌, [], ℕ, suc, false, List, Some, length, slice_get, slice_index_or, sym, ◌∙◌, ap, subst, arith}
+use Rattle.std.proofs.Common.{◌≡◌, ◌<◌, ◌+◌, ◌∷◌, ◌++◌, [], ℕ, suc, List, Some, length, slice_get, slice_index_or, sym, ◌∙◌, ap, subst, arith}
 use Rattle.std.proofs.lemmas.Option.{slice_get-get_or}
 use Rattle.mk_ssa.specs.declared.Op.{Op}
 use Rattle.mk_ssa.specs.declared.Op.TheVariants.{Const}
 use Rattle.mk_ssa.specs.Values.{Values}
 use Rattle.mk_rules.specs.Claimed.{Claimed}
 use Rattle.mk_place.specs.declared.marking.Fresh.{Fresh}
-use Rattle.mk_place.specs.Marking.{all_marks}
+use Rattle.mk_place.specs.Marking.{all_marks, unmarked}
 use Rattle.mk_place.specs.Laying.{IsLaid, with_refreshes, own_of}
-use Rattle.mk_place.proofs.Stepping.{fresh_of}
 use Rattle.mk_place.proofs.Placing.{laid-none, laid-next, next-named}
 use Rattle.mk_place.proofs.layout.lay_values.Goals as goal
 
@@ -46,12 +45,9 @@ loop-at-preserved c =
     let bs : List Op = c.loop-at.cert.blocks in
     let ns : List ℕ = c.loop-at.names in
     let fresh : List Fresh = c.args.fresh.now in
-    let k : ℕ = c.len-len.result - 1 - i in
-    let x : Fresh = slice_index_or fresh k (fresh_of false false) in
-    let below : k < length fresh = omega (arith, c.loop-at-test.true, c.loop-at.invariant.0, c.requires.count) in
-    let e : k ≡ length s.values - suc i = omega (arith, c.loop-at.invariant.0) in
-    let at : slice_get fresh (length s.values - suc i) ≡ Some x =
-    subst (λ (n : ℕ). slice_get fresh n ≡ Some x) e (slice_get-get_or fresh k (fresh_of false false) below) in
+    let x : Fresh = slice_index_or fresh i unmarked in
+    let at : slice_get fresh i ≡ Some x =
+    slice_get-get_or fresh i unmarked (omega (arith, c.loop-at-test.true, c.loop-at.invariant.0, c.requires.count)) in
     let next : suc i ≡ i + 1 = omega arith in
     let laid : IsLaid (all_marks s) s.values (i + 1) (with_refreshes ns bs op x ++ own_of ns bs op x ∷ []) (ns ++ length (with_refreshes ns bs op x) ∷ []) =
     subst (λ (n : ℕ). IsLaid (all_marks s) s.values n (with_refreshes ns bs op x ++ own_of ns bs op x ∷ []) (ns ++ length (with_refreshes ns bs op x) ∷ []))

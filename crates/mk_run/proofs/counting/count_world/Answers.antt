@@ -5,7 +5,7 @@ use Rattle.mk_field.specs.Field.{size}
 use Rattle.mk_code.specs.Counting.{AllBelow, Elements, one_if_equal}
 use Rattle.mk_code.specs.Listing.{Listing, trace_len}
 use Rattle.mk_code.specs.Private.{observation, masked_trace}
-use Rattle.mk_code.proofs.Steps.{zero-element}
+use Rattle.mk_field.proofs.Sum.{zero-element}
 use Rattle.mk_run.specs.Refusals.{tapes, tape_len}
 use Rattle.mk_run.specs.Tally.{more, number, tally_of}
 use Rattle.mk_run.specs.Tapes.{numbered}

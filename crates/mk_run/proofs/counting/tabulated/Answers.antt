@@ -1,29 +1,12 @@
 -- The tallies have the numbers of ways in both worlds.
-use Rattle.std.proofs.Common.{arith, ◌∙◌, ◌^◌}
+use Rattle.std.proofs.Common.{◌∙◌}
 use Rattle.std.proofs.lemmas.Result.{IfOk-weaker}
 use Rattle.mk_code.specs.Private.{ways}
 use Rattle.mk_run.specs.Table.{IsTable}
 use Rattle.mk_run.specs.Tally.{tally_of}
 use Rattle.mk_run.proofs.Rows.{same-table}
-use Rattle.mk_run.proofs.Tallying.{kept-short}
-use Rattle.mk_run.proofs.Worlds.{tallied, shown-length}
+use Rattle.mk_run.proofs.Worlds.{tallied}
 use Rattle.mk_run.proofs.counting.tabulated.Goals as goal
-
-pub rows_of-requires-clause-short : goal.rows_of-requires-clause-short
-rows_of-requires-clause-short c =
-    let code = c.args.code.now in
-    let publics = c.args.publics.now in
-    let first = c.args.first.now in
-    let second = c.args.second.now in
-    let probes = c.args.probes.now in
-    let one = c.in_ok-count_world.ensures in
-    let two = c.in_ok-count_world-2.ensures in
-    let start = c.in_ok-runner.ensures in
-    kept-short c.count_world-2.new.tallies (2 ^ 32) (ways code publics first probes) (ways code publics second probes) two.shown
-    (tallied code c.in_ok-runner.runner.code c.count_world.new.runner.code publics c.in_ok-runner.runner.publics c.count_world.new.runner.publics first second probes
-    c.new-tallies.result c.count_world.new.tallies c.count_world-2.new.tallies
-    start.code start.publics (one.code ∙ start.code) (one.publics ∙ start.publics) c.new-tallies.ensures.empty one.counted two.counted)
-    (λ tuple some. omega (arith, shown-length code publics first second probes tuple some, c.requires.length))
 
 pub returns : goal.returns
 returns c =

@@ -9,8 +9,8 @@ pub returns-clause-elements : goal.returns-clause-elements
 returns-clause-elements c =
     let code = c.args.code.now in
     let p = c.finish.new.machine in
-    let progress = c.trace.ensures.progress in
-    let same : c.from_vec.result ≡ p.entries = search rules in
+    let progress = c.into_trace.ensures.progress in
+    let same : c.into_trace.result ≡ p.entries = search rules in
     let of : p.code ≡ code = search rules in
     let long : p.at ≡ length p.code.instrs = omega (arith, progress.within, c.finish.ensures.done) in
     subst (Elements (size code.field) (trace_len code)) (sym same)

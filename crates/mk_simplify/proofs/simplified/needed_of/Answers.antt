@@ -16,7 +16,7 @@ all_renumbered-requires c =
     let list : c.as_slice.result.now ≡ s.outs = c.as_slice.ensures.items ∙ c.outs.ensures in
     let long : length c.as_slice-2.result.now ≡ length s.values = ap length c.as_slice-2.ensures.items ∙ c.requires.count in
     subst (λ (l : List Operand). All (IsBelow (length c.as_slice-2.result.now)) l) (sym list)
-    (subst (λ (n : ℕ). All (IsBelow n) s.outs) (sym long) (outs-within s c.values-values.ensures.fits))
+    (subst (λ (n : ℕ). All (IsBelow n) s.outs) (sym long) (outs-within s c.law.ensures))
 
 pub needs-requires-clause-earlier : goal.needs-requires-clause-earlier
 needs-requires-clause-earlier c =
@@ -33,7 +33,7 @@ needs-requires-clause-outs c =
     c.as_slice-3.ensures.items ∙ c.in_ok-outs.ensures ∙ ap (λ (l : List ℕ). map (renumbered l) c.as_slice.result.now) c.as_slice-2.ensures.items
     ∙ ap (map (renumbered ns)) (c.as_slice.ensures.items ∙ c.outs.ensures) in
     subst (λ (l : List Op). All (IsBelow (length l)) c.as_slice-3.result.now) (sym kept)
-    (outs-merged s ks ns c.as_slice-3.result.now c.values-values.ensures.fits c.requires outs)
+    (outs-merged s ks ns c.as_slice-3.result.now c.law.ensures c.requires outs)
 
 pub all_renumbered-requires-2 : goal.all_renumbered-requires-2
 all_renumbered-requires-2 c =
@@ -51,7 +51,7 @@ all_renumbered-requires-2 c =
     let long : length c.as_slice-6.result.now ≡ length ks =
     ap length c.as_slice-6.ensures.items ∙ c.in_ok-places.ensures.placed.count ∙ ap length kept in
     subst (λ (l : List Operand). All (IsBelow (length c.as_slice-6.result.now)) l) (sym c.as_slice-5.ensures.items)
-    (subst (λ (n : ℕ). All (IsBelow n) outs) (sym long) (outs-merged s ks ns outs c.values-values.ensures.fits c.requires outs_are))
+    (subst (λ (n : ℕ). All (IsBelow n) outs) (sym long) (outs-merged s ks ns outs c.law.ensures c.requires outs_are))
 
 pub finish-requires : goal.finish-requires
 finish-requires c =
@@ -68,7 +68,7 @@ finish-requires c =
     ∙ ap (map (renumbered ns)) (c.as_slice.ensures.items ∙ c.outs.ensures) in
     let made : IsMade s ks ns outs marks values places =
     steps-made s ks ns outs marks c.keep.new.builder places c.new-builder.result c.field.result c.secrets.result c.publics.result c.in_ok-maps.maps
-    c.values-values.ensures.fits c.requires outs_are
+    c.law.ensures c.requires outs_are
     (subst (λ (l : List Op). AreMarked l outs marks) kept
     (subst (λ (l : List Operand). AreMarked c.as_slice-ops.result.now l marks) c.as_slice-3.ensures.items c.in_ok-marks.ensures))
     (subst (λ (l : List Op). ArePlaced (length l) l marks values places) kept
@@ -101,7 +101,7 @@ returns-clause-simplified c =
     ∙ ap (map (renumbered ns)) (c.as_slice.ensures.items ∙ c.outs.ensures) in
     let made : IsMade s ks ns outs marks values places =
     steps-made s ks ns outs marks c.keep.new.builder places c.new-builder.result c.field.result c.secrets.result c.publics.result c.in_ok-maps.maps
-    c.values-values.ensures.fits c.requires outs_are
+    c.law.ensures c.requires outs_are
     (subst (λ (l : List Op). AreMarked l outs marks) kept
     (subst (λ (l : List Operand). AreMarked c.as_slice-ops.result.now l marks) c.as_slice-3.ensures.items c.in_ok-marks.ensures))
     (subst (λ (l : List Op). ArePlaced (length l) l marks values places) kept
@@ -136,7 +136,7 @@ returns-clause-fits c =
     ∙ ap (map (renumbered ns)) (c.as_slice.ensures.items ∙ c.outs.ensures) in
     let made : IsMade s ks ns outs marks values places =
     steps-made s ks ns outs marks c.keep.new.builder places c.new-builder.result c.field.result c.secrets.result c.publics.result c.in_ok-maps.maps
-    c.values-values.ensures.fits c.requires outs_are
+    c.law.ensures c.requires outs_are
     (subst (λ (l : List Op). AreMarked l outs marks) kept
     (subst (λ (l : List Operand). AreMarked c.as_slice-ops.result.now l marks) c.as_slice-3.ensures.items c.in_ok-marks.ensures))
     (subst (λ (l : List Op). ArePlaced (length l) l marks values places) kept

@@ -14,4 +14,4 @@ returns-in_err-table-clause-fault c =
     subst (λ (r : Result (List ℕ) Fault). IfErr r (NotMade counts c.args.text.now)) (sym p.1)
     (subst (NotMade counts c.args.text.now) (sym p.2)
     (count_not_made c.args.publics.now c.args.first.now c.args.second.now c.args.probes.now c.args.text.now c.in_ok-bundle.bundle.code c.in_ok-bundle.bundle.cert
-    c.in_err-table.field-0.0 (c.in_ok-bundle.ensures).ok.0 (c.in_ok-bundle.ensures).ok.1 (c.in_err-table.ensures).refused))
+    c.in_err-table.field-0.0 (c.in_ok-bundle.ensures).ok (c.in_err-table.ensures).refused))

@@ -5,7 +5,7 @@ use Rattle.mk_top.proofs.Lines.{observation-more}
 use Rattle.mk_top.proofs.outputs.entries_at.Goals as goal
 
 pub bounds-entries-place : goal.bounds-entries-place
-bounds-entries-place c = AllBelow-at (length c.args.entries.now) c.args.places.now c.loop-place.place-index c.loop-place-test.true c.requires
+bounds-entries-place c = AllBelow-at (length c.args.entries.now) c.args.places.now c.loop-place.place-index c.requires c.loop-place-test.true
 
 pub loop-place-preserved : goal.loop-place-preserved
 loop-place-preserved c =

@@ -2,6 +2,7 @@
 use Rattle.std.proofs.Common.{ℕ, List, Some, IfOk, IfErr, subst}
 use Rattle.mk_words.specs.Words.{Report}
 use Rattle.mk_top.specs.Headline.{Makes}
+use Rattle.mk_top.specs.Seen.{seen}
 use Rattle.mk_top.specs.Running.{NotMade}
 use Rattle.mk_top.proofs.Given.{made-given, no_text-given}
 use Rattle.mk_top.proofs.reports.reported_text.Goals as goal
@@ -9,11 +10,11 @@ use Rattle.mk_top.proofs.reports.reported_text.Goals as goal
 pub returns-clause-made : goal.returns-clause-made
 returns-clause-made g c =
     let command = Report in
-    made-given command (g.S.Source.left c.args.src.now) _ c.in_ok-text.text c.report_of.result c.in_ok-text.ensures.within c.in_ok-text.ensures.read
+    made-given command (seen g.S.Source.left g.S.Source.faults c.args.src.now c.whole_text.new.src) c.in_ok-text.text c.report_of.result c.in_ok-text.ensures.within c.in_ok-text.ensures.read
     (subst (λ (bytes : List ℕ). IfOk c.report_of.result (Makes command (Some bytes))) c.as_slice.ensures.items c.report_of.ensures.reports)
 
 pub returns-clause-unmade : goal.returns-clause-unmade
 returns-clause-unmade g c =
     let command = Report in
-    no_text-given command (g.S.Source.left c.args.src.now) _ _ _ c.in_ok-text.text c.report_of.result c.in_ok-text.ensures.within c.in_ok-text.ensures.read
+    no_text-given command (seen g.S.Source.left g.S.Source.faults c.args.src.now c.whole_text.new.src) c.in_ok-text.text c.report_of.result c.in_ok-text.ensures.within c.in_ok-text.ensures.read
     (subst (λ (bytes : List ℕ). IfErr c.report_of.result (NotMade command bytes)) c.as_slice.ensures.items c.report_of.ensures.fault)

@@ -15,9 +15,9 @@ returns-in_err-text_of_run-clause-fault c =
     subst (λ (r : Result (List ℕ) Fault). IfErr r (NotMade run c.args.text.now)) (sym p.1)
     (subst (NotMade run c.args.text.now) (sym p.2)
     (run_not_made c.args.publics.now c.args.secrets.now (given_of c.args.tape) c.args.text.now c.in_ok-bundle.bundle.code c.in_ok-bundle.bundle.cert c.in_err-text_of_run.field-0.0
-    (c.in_ok-bundle.ensures).ok.0 (c.in_ok-bundle.ensures).ok.1 (c.in_err-text_of_run.ensures).refused))
+    (c.in_ok-bundle.ensures).ok (c.in_err-text_of_run.ensures).refused))
 
 pub returns-clause-runs : goal.returns-clause-runs
 returns-clause-runs c =
     runs-made c.args.publics.now c.args.secrets.now (given_of c.args.tape) c.args.text.now c.in_ok-text_of_run.field-0 c.in_ok-bundle.bundle.code c.in_ok-bundle.bundle.cert
-    (c.in_ok-bundle.ensures).ok.0 (c.in_ok-bundle.ensures).ok.1 (c.in_ok-text_of_run.ensures).taken (c.in_ok-text_of_run.ensures).text
+    (c.in_ok-bundle.ensures).ok (c.in_ok-text_of_run.ensures).taken (c.in_ok-text_of_run.ensures).text

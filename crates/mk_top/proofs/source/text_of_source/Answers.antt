@@ -19,4 +19,4 @@ returns-clause-compiled c =
     compiles-made c.args.order c.args.source.now c.in_ok-to_text.field-0 c.in_ok-typed.typed c.in_ok-bundle.bundle.code c.in_ok-bundle.bundle.cert
     (c.in_ok-typed.ensures).typed (c.in_ok-bundle.ensures).within (c.in_ok-bundle.ensures).correct (c.in_ok-bundle.ensures).maps (c.in_ok-bundle.ensures).private
     (c.in_ok-bundle.ensures).certified (c.in_ok-bundle.ensures).different (c.in_ok-bundle.ensures).accepted
-    (c.in_ok-to_text.ensures).pair (c.in_ok-to_text.ensures).text
+    c.in_ok-to_text.ensures

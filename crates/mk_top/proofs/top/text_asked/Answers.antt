@@ -3,17 +3,18 @@ use Rattle.std.proofs.Common.{refl, subst}
 use Rattle.mk_words.specs.Words.{Compile, Check, Report, Gen, Trial}
 use Rattle.mk_words.specs.Forms.{AsksSo}
 use Rattle.mk_words.specs.declared.command.Form.TheVariants as form
+use Rattle.mk_top.specs.Seen.{seen}
 use Rattle.mk_top.proofs.Ends.{made-asked, unmade-asked, made-unread, unmade-unread, made-evaluated, unmade-evaluated, made-run, unmade-run, made-counted, unmade-counted, asked-leaves}
 use Rattle.mk_top.proofs.top.text_asked.Goals as goal
 
 pub returns-in-Some-Compile-clause-made : goal.returns-in-Some-Compile-clause-made
 returns-in-Some-Compile-clause-made g c =
-    made-asked c.args.words.now (Compile c.in-Some-Compile.order) (g.S.Source.left c.args.src.now) (g.S.Source.left c.compiled_text.new.src) c.compiled_text.result
+    made-asked c.args.words.now (Compile c.in-Some-Compile.order) (seen g.S.Source.left g.S.Source.faults c.args.src.now c.compiled_text.new.src) c.compiled_text.result
     (subst (AsksSo c.args.words.now) c.in-Some-Compile.field-0-is (c.in-Some-Compile.ensures).asked) c.compiled_text.ensures.made
 
 pub returns-in-Some-Compile-clause-unmade : goal.returns-in-Some-Compile-clause-unmade
 returns-in-Some-Compile-clause-unmade g c =
-    unmade-asked c.args.words.now (Compile c.in-Some-Compile.order) (g.S.Source.left c.args.src.now) (g.S.Source.left c.compiled_text.new.src) (g.S.Source.faults c.args.src.now) (g.S.Source.faults c.compiled_text.new.src) c.compiled_text.result
+    unmade-asked c.args.words.now (Compile c.in-Some-Compile.order) (seen g.S.Source.left g.S.Source.faults c.args.src.now c.compiled_text.new.src) c.compiled_text.result
     (subst (AsksSo c.args.words.now) c.in-Some-Compile.field-0-is (c.in-Some-Compile.ensures).asked) c.compiled_text.ensures.unmade
 
 pub returns-in-Some-Compile-clause-leaves : goal.returns-in-Some-Compile-clause-leaves
@@ -23,12 +24,12 @@ returns-in-Some-Compile-clause-leaves g c =
 
 pub returns-in-Some-Check-clause-made : goal.returns-in-Some-Check-clause-made
 returns-in-Some-Check-clause-made g c =
-    made-asked c.args.words.now Check (g.S.Source.left c.args.src.now) (g.S.Source.left c.checked_text.new.src) c.checked_text.result
+    made-asked c.args.words.now Check (seen g.S.Source.left g.S.Source.faults c.args.src.now c.checked_text.new.src) c.checked_text.result
     (subst (AsksSo c.args.words.now) c.in-Some-Check.field-0-is (c.in-Some-Check.ensures).asked) c.checked_text.ensures.made
 
 pub returns-in-Some-Check-clause-unmade : goal.returns-in-Some-Check-clause-unmade
 returns-in-Some-Check-clause-unmade g c =
-    unmade-asked c.args.words.now Check (g.S.Source.left c.args.src.now) (g.S.Source.left c.checked_text.new.src) (g.S.Source.faults c.args.src.now) (g.S.Source.faults c.checked_text.new.src) c.checked_text.result
+    unmade-asked c.args.words.now Check (seen g.S.Source.left g.S.Source.faults c.args.src.now c.checked_text.new.src) c.checked_text.result
     (subst (AsksSo c.args.words.now) c.in-Some-Check.field-0-is (c.in-Some-Check.ensures).asked) c.checked_text.ensures.unmade
 
 pub returns-in-Some-Check-clause-leaves : goal.returns-in-Some-Check-clause-leaves
@@ -38,12 +39,12 @@ returns-in-Some-Check-clause-leaves g c =
 
 pub returns-in-Some-Report-clause-made : goal.returns-in-Some-Report-clause-made
 returns-in-Some-Report-clause-made g c =
-    made-asked c.args.words.now Report (g.S.Source.left c.args.src.now) (g.S.Source.left c.reported_text.new.src) c.reported_text.result
+    made-asked c.args.words.now Report (seen g.S.Source.left g.S.Source.faults c.args.src.now c.reported_text.new.src) c.reported_text.result
     (subst (AsksSo c.args.words.now) c.in-Some-Report.field-0-is (c.in-Some-Report.ensures).asked) c.reported_text.ensures.made
 
 pub returns-in-Some-Report-clause-unmade : goal.returns-in-Some-Report-clause-unmade
 returns-in-Some-Report-clause-unmade g c =
-    unmade-asked c.args.words.now Report (g.S.Source.left c.args.src.now) (g.S.Source.left c.reported_text.new.src) (g.S.Source.faults c.args.src.now) (g.S.Source.faults c.reported_text.new.src) c.reported_text.result
+    unmade-asked c.args.words.now Report (seen g.S.Source.left g.S.Source.faults c.args.src.now c.reported_text.new.src) c.reported_text.result
     (subst (AsksSo c.args.words.now) c.in-Some-Report.field-0-is (c.in-Some-Report.ensures).asked) c.reported_text.ensures.unmade
 
 pub returns-in-Some-Report-clause-leaves : goal.returns-in-Some-Report-clause-leaves
@@ -53,12 +54,12 @@ returns-in-Some-Report-clause-leaves g c =
 
 pub returns-in-Some-Gen-clause-made : goal.returns-in-Some-Gen-clause-made
 returns-in-Some-Gen-clause-made g c =
-    made-unread c.args.words.now (Gen c.in-Some-Gen.turns) (g.S.Source.left c.args.src.now) (g.S.Source.left c.args.src.now) c.generated_text.result refl refl
+    made-unread c.args.words.now (Gen c.in-Some-Gen.turns) (seen g.S.Source.left g.S.Source.faults c.args.src.now c.args.src.now) c.generated_text.result refl refl
     (subst (AsksSo c.args.words.now) c.in-Some-Gen.field-0-is (c.in-Some-Gen.ensures).asked) c.generated_text.ensures.generates
 
 pub returns-in-Some-Gen-clause-unmade : goal.returns-in-Some-Gen-clause-unmade
 returns-in-Some-Gen-clause-unmade g c =
-    unmade-unread c.args.words.now (Gen c.in-Some-Gen.turns) (g.S.Source.left c.args.src.now) (g.S.Source.left c.args.src.now) (g.S.Source.faults c.args.src.now) (g.S.Source.faults c.args.src.now) c.generated_text.result refl refl
+    unmade-unread c.args.words.now (Gen c.in-Some-Gen.turns) (seen g.S.Source.left g.S.Source.faults c.args.src.now c.args.src.now) c.generated_text.result refl refl
     (subst (AsksSo c.args.words.now) c.in-Some-Gen.field-0-is (c.in-Some-Gen.ensures).asked) c.generated_text.ensures.fault
 
 pub returns-in-Some-Gen-clause-leaves : goal.returns-in-Some-Gen-clause-leaves
@@ -68,12 +69,12 @@ returns-in-Some-Gen-clause-leaves g c =
 
 pub returns-in-Some-Trial-clause-made : goal.returns-in-Some-Trial-clause-made
 returns-in-Some-Trial-clause-made g c =
-    made-unread c.args.words.now (Trial c.in-Some-Trial.turns c.in-Some-Trial.order) (g.S.Source.left c.args.src.now) (g.S.Source.left c.args.src.now) c.tried_text.result refl refl
+    made-unread c.args.words.now (Trial c.in-Some-Trial.turns c.in-Some-Trial.order) (seen g.S.Source.left g.S.Source.faults c.args.src.now c.args.src.now) c.tried_text.result refl refl
     (subst (AsksSo c.args.words.now) c.in-Some-Trial.field-0-is (c.in-Some-Trial.ensures).asked) c.tried_text.ensures.tries
 
 pub returns-in-Some-Trial-clause-unmade : goal.returns-in-Some-Trial-clause-unmade
 returns-in-Some-Trial-clause-unmade g c =
-    unmade-unread c.args.words.now (Trial c.in-Some-Trial.turns c.in-Some-Trial.order) (g.S.Source.left c.args.src.now) (g.S.Source.left c.args.src.now) (g.S.Source.faults c.args.src.now) (g.S.Source.faults c.args.src.now) c.tried_text.result refl refl
+    unmade-unread c.args.words.now (Trial c.in-Some-Trial.turns c.in-Some-Trial.order) (seen g.S.Source.left g.S.Source.faults c.args.src.now c.args.src.now) c.tried_text.result refl refl
     (subst (AsksSo c.args.words.now) c.in-Some-Trial.field-0-is (c.in-Some-Trial.ensures).asked) c.tried_text.ensures.fault
 
 pub returns-in-Some-Trial-clause-leaves : goal.returns-in-Some-Trial-clause-leaves
@@ -83,12 +84,12 @@ returns-in-Some-Trial-clause-leaves g c =
 
 pub returns-in-Some-Eval-clause-made : goal.returns-in-Some-Eval-clause-made
 returns-in-Some-Eval-clause-made g c =
-    made-evaluated c.args.words.now c.in-Some-Eval.publics.now c.in-Some-Eval.secrets.now (g.S.Source.left c.args.src.now) (g.S.Source.left c.evaluated_on_words.new.src) c.evaluated_on_words.result
+    made-evaluated c.args.words.now c.in-Some-Eval.publics.now c.in-Some-Eval.secrets.now (seen g.S.Source.left g.S.Source.faults c.args.src.now c.evaluated_on_words.new.src) c.evaluated_on_words.result
     (subst (AsksSo c.args.words.now) c.in-Some-Eval.field-0-is (c.in-Some-Eval.ensures).asked).0 c.evaluated_on_words.ensures.made
 
 pub returns-in-Some-Eval-clause-unmade : goal.returns-in-Some-Eval-clause-unmade
 returns-in-Some-Eval-clause-unmade g c =
-    unmade-evaluated c.args.words.now c.in-Some-Eval.publics.now c.in-Some-Eval.secrets.now (g.S.Source.left c.args.src.now) (g.S.Source.left c.evaluated_on_words.new.src) (g.S.Source.faults c.args.src.now) (g.S.Source.faults c.evaluated_on_words.new.src) c.evaluated_on_words.result
+    unmade-evaluated c.args.words.now c.in-Some-Eval.publics.now c.in-Some-Eval.secrets.now (seen g.S.Source.left g.S.Source.faults c.args.src.now c.evaluated_on_words.new.src) c.evaluated_on_words.result
     (subst (AsksSo c.args.words.now) c.in-Some-Eval.field-0-is (c.in-Some-Eval.ensures).asked).0 c.evaluated_on_words.ensures.unmade
 
 pub returns-in-Some-Eval-clause-leaves : goal.returns-in-Some-Eval-clause-leaves
@@ -99,12 +100,12 @@ returns-in-Some-Eval-clause-leaves g c =
 pub returns-in-Some-Run-clause-made : goal.returns-in-Some-Run-clause-made
 returns-in-Some-Run-clause-made g c =
     let asked = subst (AsksSo c.args.words.now) c.in-Some-Run.field-0-is (c.in-Some-Run.ensures).asked in
-    made-run c.args.words.now asked.0 asked.1 c.in-Some-Run.publics.now c.in-Some-Run.secrets.now c.in-Some-Run.tape (g.S.Source.left c.args.src.now) (g.S.Source.left c.run_on_words.new.src) c.run_on_words.result asked.2 asked.5 c.run_on_words.ensures.made
+    made-run c.args.words.now asked.0 asked.1 c.in-Some-Run.publics.now c.in-Some-Run.secrets.now c.in-Some-Run.tape (seen g.S.Source.left g.S.Source.faults c.args.src.now c.run_on_words.new.src) c.run_on_words.result asked.2 asked.5 c.run_on_words.ensures.made
 
 pub returns-in-Some-Run-clause-unmade : goal.returns-in-Some-Run-clause-unmade
 returns-in-Some-Run-clause-unmade g c =
     let asked = subst (AsksSo c.args.words.now) c.in-Some-Run.field-0-is (c.in-Some-Run.ensures).asked in
-    unmade-run c.args.words.now asked.0 asked.1 c.in-Some-Run.publics.now c.in-Some-Run.secrets.now c.in-Some-Run.tape (g.S.Source.left c.args.src.now) (g.S.Source.left c.run_on_words.new.src) (g.S.Source.faults c.args.src.now) (g.S.Source.faults c.run_on_words.new.src) c.run_on_words.result asked.2 asked.5 c.run_on_words.ensures.unmade
+    unmade-run c.args.words.now asked.0 asked.1 c.in-Some-Run.publics.now c.in-Some-Run.secrets.now c.in-Some-Run.tape (seen g.S.Source.left g.S.Source.faults c.args.src.now c.run_on_words.new.src) c.run_on_words.result asked.2 asked.5 c.run_on_words.ensures.unmade
 
 pub returns-in-Some-Run-clause-leaves : goal.returns-in-Some-Run-clause-leaves
 returns-in-Some-Run-clause-leaves g c =
@@ -113,12 +114,12 @@ returns-in-Some-Run-clause-leaves g c =
 
 pub returns-in-Some-Count-clause-made : goal.returns-in-Some-Count-clause-made
 returns-in-Some-Count-clause-made g c =
-    made-counted c.args.words.now c.in-Some-Count.publics.now c.in-Some-Count.first.now c.in-Some-Count.second.now c.in-Some-Count.probes.now (g.S.Source.left c.args.src.now) (g.S.Source.left c.counted_on_words.new.src) c.counted_on_words.result
+    made-counted c.args.words.now c.in-Some-Count.publics.now c.in-Some-Count.first.now c.in-Some-Count.second.now c.in-Some-Count.probes.now (seen g.S.Source.left g.S.Source.faults c.args.src.now c.counted_on_words.new.src) c.counted_on_words.result
     (subst (AsksSo c.args.words.now) c.in-Some-Count.field-0-is (c.in-Some-Count.ensures).asked).0 c.counted_on_words.ensures.made
 
 pub returns-in-Some-Count-clause-unmade : goal.returns-in-Some-Count-clause-unmade
 returns-in-Some-Count-clause-unmade g c =
-    unmade-counted c.args.words.now c.in-Some-Count.publics.now c.in-Some-Count.first.now c.in-Some-Count.second.now c.in-Some-Count.probes.now (g.S.Source.left c.args.src.now) (g.S.Source.left c.counted_on_words.new.src) (g.S.Source.faults c.args.src.now) (g.S.Source.faults c.counted_on_words.new.src) c.counted_on_words.result
+    unmade-counted c.args.words.now c.in-Some-Count.publics.now c.in-Some-Count.first.now c.in-Some-Count.second.now c.in-Some-Count.probes.now (seen g.S.Source.left g.S.Source.faults c.args.src.now c.counted_on_words.new.src) c.counted_on_words.result
     (subst (AsksSo c.args.words.now) c.in-Some-Count.field-0-is (c.in-Some-Count.ensures).asked).0 c.counted_on_words.ensures.unmade
 
 pub returns-in-Some-Count-clause-leaves : goal.returns-in-Some-Count-clause-leaves

@@ -38,4 +38,4 @@ returns-clause-tries c =
     tries-made c.args.turns c.args.order c.in_ok-line_of_trial.field-0 c.in_ok-typed.typed c.in_ok-bundle.bundle.code c.in_ok-bundle.bundle.cert
     is (c.in_ok-bundle.ensures).within (c.in_ok-bundle.ensures).correct (c.in_ok-bundle.ensures).maps (c.in_ok-bundle.ensures).private
     (c.in_ok-bundle.ensures).certified (c.in_ok-bundle.ensures).different (c.in_ok-bundle.ensures).accepted
-    (c.in_ok-to_text.ensures).pair c.in_ok-line_of_trial.ensures
+    (c.in_ok-bundle.ensures).pair c.in_ok-line_of_trial.ensures

@@ -1,12 +1,8 @@
--- What is noted of the declarations so far, and what the table knows.
+-- What is noted of the declarations so far.
 use Rattle.std.proofs.Common.{◌≡◌, take, []}
 use Rattle.mk_types.specs.Noted.{noted}
-use Rattle.mk_types.specs.Known.{Knows}
 use Rattle.mk_types.specs.Offences.{decls_offences}
 use Rattle.mk_types.proofs.declarations.check_decls.Given as goal
 
-abbrev pub invariant-loop-decl : goal.invariant-loop-decl
-invariant-loop-decl l = record {
-  found : l.found ≡ noted l.initial.found (decls_offences l.field [] (take l.decl-index l.decls));
-  names : Knows l.table (take l.decl-index l.decls);
-}
+abbrev pub invariant-loop-number : goal.invariant-loop-number
+invariant-loop-number l = l.found ≡ noted l.initial.found (decls_offences l.field [] (take l.number l.decls))

@@ -9,17 +9,17 @@ use Rattle.mk_field.specs.declared.field.FieldId.{FieldId}
 use Rattle.mk_ssa.specs.Values.{Draft}
 use Rattle.mk_field.specs.declared.map.AddMap.{AddMap}
 use Rattle.mk_types.specs.Elements.{number_of, map_number, maps_of}
-use Rattle.mk_types.specs.Offences.{expr_offences, is_no_bit}
+use Rattle.mk_types.specs.Offences.{expr_offences}
 use Rattle.mk_types.specs.Units.{Operation, expr_units, parts_units}
 use Rattle.mk_types.proofs.Layers.{expr-Lit, expr-Sq, expr-Apply, expr-Sum, expr-Product}
 use Rattle.mk_unroll.specs.Counted.{Count, counted, Halts}
-use Rattle.mk_unroll.specs.Joints.{joint_op}
 use Rattle.mk_unroll.specs.Kept.{Gives, scope_in}
 use Rattle.mk_unroll.specs.Unrolled.{Given, expr_given, applied, square_op, map_op, sum_op, product_op, joined_parts}
 use Rattle.mk_unroll.proofs.Counting.{told, flat_halts, parts_first_halts, parts_rest_halts, parts_count, halts_back}
 use Rattle.mk_unroll.proofs.Holding.{holds_kept, read_gives}
 use Rattle.mk_unroll.proofs.Keeping.{keeps_then, gives_then}
-use Rattle.mk_unroll.proofs.Typed.{nil_left, nil_right, nil_at, when_none, names_map, map_there}
+use Rattle.mk_types.proofs.MapNumbers.{map_number_is}
+use Rattle.mk_unroll.proofs.Typed.{nil_left, nil_right, nil_at, when_none, names_map}
 use Rattle.mk_unroll.proofs.UnrolledLayers.{given-Lit, given-Read, given-Sq, given-Apply, given-Sum, given-Product}
 use Rattle.mk_unroll.proofs.expressions.+expr.Goals as goal
 
@@ -130,7 +130,7 @@ operand_of-apply-requires-clause-map t c =
     (nil_left _ _ (sym (expr-Apply s name c.in-Apply.at c.in-Apply.arg) ∙ ap (expr_offences s) (sym c.in-Apply.is) ∙ c.requires.typed)) in
     let maps : c.operand_of-in-Apply.new.values.maps ≡ maps_of decls = ap (λ (d : Draft). d.maps) c.in_ok-arg-in-Apply.ensures.given.values ∙ c.requires.maps in
     subst (λ (n : ℕ). n < length c.operand_of-in-Apply.new.values.maps) (sym (c.map_number.ensures ∙ ap (map_number decls) c.as_slice-in-Apply.ensures.items))
-    (subst (λ (ms : List AddMap). map_number decls name < length ms) (sym maps) (map_there decls name declared.0 declared.1))
+    (subst (λ (ms : List AddMap). map_number decls name < length ms) (sym maps) (map_number_is decls name declared.0 declared.1).within)
 
 pub operand_of-join_parts-requires : goal.operand_of-join_parts-requires
 operand_of-join_parts-requires t c =
@@ -174,7 +174,7 @@ operand_of-returns-in_ok-index-in-Read-clause-given t c =
     let from = c.in-Read.from in
     subst (λ (g : Given). Gives d g d c.read.result) (sym (ap (λ x. expr_given decls turns env x d.values) c.in-Read.is ∙ given-Read decls turns env from d.values))
     (read_gives d decls turns env from c.number-number.result c.in_ok-index-in-Read.index c.read.result c.requires.holds
-    (c.number-number.ensures.number ∙ ap (number_of decls) c.as_slice.ensures.items) c.in_ok-index-in-Read.ensures.value c.read.ensures)
+    (c.number-number.ensures ∙ ap (number_of decls) c.as_slice.ensures.items) c.in_ok-index-in-Read.ensures.value c.read.ensures)
 
 pub operand_of-returns-in_ok-arg-in-Sq-clause-given : goal.operand_of-returns-in_ok-arg-in-Sq-clause-given
 operand_of-returns-in_ok-arg-in-Sq-clause-given t c =

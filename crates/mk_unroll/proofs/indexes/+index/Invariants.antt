@@ -1,6 +1,5 @@
 -- The number so far, and what is counted of the parts so far.
 use Rattle.std.proofs.Common.{◌≡◌, take}
-use Rattle.mk_types.specs.Units.{plus_part, evaluated, linked}
 use Rattle.mk_unroll.specs.Counted.{counted}
 use Rattle.mk_unroll.specs.Walked.{added_parts, linked_parts}
 use Rattle.mk_unroll.proofs.indexes.+index.Given as goal

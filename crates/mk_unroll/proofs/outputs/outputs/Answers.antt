@@ -1,5 +1,5 @@
 -- One more declaration, with its outputs or none.
-use Rattle.std.proofs.Common.{◌++◌, [], Some, take, if◌then◌else◌, sym, ap, ◌∙◌}
+use Rattle.std.proofs.Common.{◌++◌, [], Some, take, if◌then◌else◌, ap, ◌∙◌}
 use Rattle.mk_types.specs.Elements.{is_output_class}
 use Rattle.mk_types.specs.Environment.{output_elements}
 use Rattle.mk_types.specs.Scope.{is_variable}

@@ -1,7 +1,6 @@
 -- What is unrolled has the meaning of the program, and few values.
 use Rattle.std.proofs.Common.{◌≡◌, IfOk, OnOk, subst}
 use Rattle.mk_ast.specs.declared.tree.Program.{Program}
-use Rattle.mk_ssa.specs.Values.{Values}
 use Rattle.mk_unroll.specs.Causes.{HasFewElements, Ends, IsSmall}
 use Rattle.mk_unroll.specs.Unrolled.{unrolled}
 use Rattle.mk_unroll.proofs.Bounded.{is_meant, has_few}

@@ -1,17 +1,14 @@
 -- The statements are executed from the outset, and the values and the outputs are those of the definitions.
-use Rattle.std.proofs.Common.{◌≡◌, ◌⊎◌, ℕ, ◌+◌, ◌*◌, ◌≤◌, ◌<◌, ◌^◌, List, [], ◌∷◌, ◌++◌, length, flat_map, inl, inr, sym, ap, subst, ◌∙◌}
+use Rattle.std.proofs.Common.{◌≡◌, ◌⊎◌, ℕ, ◌+◌, ◌*◌, ◌≤◌, ◌<◌, List, [], flat_map, inl, inr, sym, ap, subst, ◌∙◌}
 use Rattle.std.specs.List.{AllByRecursion}
 use Rattle.std.proofs.lemmas.List.Elements.{All-from_recursion}
 use Rattle.mk_field.specs.declared.field.FieldId.{FieldId}
-use Rattle.mk_ast.specs.declared.refusal.SourceRefusal.{SourceRefusal}
 use Rattle.mk_ast.specs.declared.refusal.SourceRefusal.TheVariants as refusal_
 use Rattle.mk_ast.specs.declared.tree.Decl.{Decl}
 use Rattle.mk_ast.specs.declared.tree.Stmt.{Stmt}
 use Rattle.mk_ast.specs.declared.tree.Program.{Program}
 use Rattle.mk_ssa.specs.declared.Operand.{Operand}
 use Rattle.mk_ssa.specs.Values.{Draft, IsSharedThere, finished}
-use Rattle.mk_types.specs.Turns.{Turn}
-use Rattle.mk_types.specs.Elements.{maps_of}
 use Rattle.mk_types.specs.Environment.{output_elements}
 use Rattle.mk_types.specs.Offences.{stmt_offences}
 use Rattle.mk_unroll.specs.declared.frame.Frame.{Frame}
@@ -56,7 +53,7 @@ pub execute_all-requires-clause-typed : goal.execute_all-requires-clause-typed
 execute_all-requires-clause-typed c =
     let f = c.in_ok-frame.frame in
     let body = c.args.body.now in
-    ap (λ (k : FieldId). flat_map (λ s. stmt_offences s (scope_in k f.names f.turns)) body) (ap (λ (d : Draft). d.field) c.in_ok-values.ensures.values)
+    ap (λ (k : FieldId). flat_map (λ s. stmt_offences s (scope_in k f.names f.turns)) body) (ap (λ (d : Draft). d.field) c.in_ok-values.ensures)
     ∙ ap (λ (g : Frame). flat_map (λ s. stmt_offences s (scope_in c.args.field g.names g.turns)) body) c.in_ok-frame.ensures
     ∙ nil_right _ _ c.requires.typed
 
@@ -64,7 +61,7 @@ pub execute_all-requires-clause-holds : goal.execute_all-requires-clause-holds
 execute_all-requires-clause-holds c =
     let f = c.in_ok-frame.frame in
     let decls = c.args.decls.now in
-    subst (λ (d : Draft). Holds d f.names f.variables) (sym c.in_ok-values.ensures.values)
+    subst (λ (d : Draft). Holds d f.names f.variables) (sym c.in_ok-values.ensures)
     (subst (λ (g : Frame). Holds (first_draft c.args.field decls) g.names g.variables) (sym c.in_ok-frame.ensures) (first_holds c.args.field decls))
 
 pub returns-in_err-execute_all-clause-cause : goal.returns-in_err-execute_all-clause-cause
@@ -97,7 +94,7 @@ returns-in_err-check_size-clause-cause c =
 pub outputs-requires : goal.outputs-requires
 outputs-requires c =
     let becomes = from_outset c.args.field c.args.decls.now c.args.body.now c.in_ok-frame.frame c.in_ok-values.values c.execute_all.new.values c.execute_all.new.frame.variables
-    c.in_ok-frame.ensures c.in_ok-values.ensures.values c.in_ok-execute_all.ensures.becomes in
+    c.in_ok-frame.ensures c.in_ok-values.ensures c.in_ok-execute_all.ensures.becomes in
     held_length c.execute_all.new.values c.args.decls.now c.execute_all.new.frame.variables becomes.holds.held
 
 pub finish-requires : goal.finish-requires
@@ -105,7 +102,7 @@ finish-requires c =
     let after = c.execute_all.new.values in
     let env = c.execute_all.new.frame.variables in
     let becomes = from_outset c.args.field c.args.decls.now c.args.body.now c.in_ok-frame.frame c.in_ok-values.values after env
-    c.in_ok-frame.ensures c.in_ok-values.ensures.values c.in_ok-execute_all.ensures.becomes in
+    c.in_ok-frame.ensures c.in_ok-values.ensures c.in_ok-execute_all.ensures.becomes in
     All-from_recursion (IsSharedThere after) c.in_ok-outs.outs
     (subst (λ (xs : List Operand). AllByRecursion (IsSharedThere after) xs) (sym c.in_ok-outs.ensures) (outs_shared after c.args.decls.now env becomes.holds.held))
 
@@ -116,7 +113,7 @@ returns-clause-values c =
     let first = first_draft c.args.field c.args.decls.now in
     let u = last_unrolling (program c.args.field c.args.decls.now c.args.body.now) in
     let becomes = from_outset c.args.field c.args.decls.now c.args.body.now c.in_ok-frame.frame c.in_ok-values.values after env
-    c.in_ok-frame.ensures c.in_ok-values.ensures.values c.in_ok-execute_all.ensures.becomes in
+    c.in_ok-frame.ensures c.in_ok-values.ensures c.in_ok-execute_all.ensures.becomes in
     c.finish.ensures
     ∙ ap (λ (d : Draft). finished d c.in_ok-outs.outs) becomes.values
     ∙ ap (finished (record first { values = u.values })) (c.in_ok-outs.ensures ∙ ap (output_elements c.args.decls.now) becomes.env)
@@ -135,6 +132,3 @@ returns-clause-small c =
     let count = c.in_ok-execute_all.ensures.ok ∙ from_nothing c.args.decls.now c.args.body.now c.in_ok-frame.frame c.new-meter.result c.in_ok-frame.ensures c.new-meter.ensures in
     subst (λ (k : ℕ). k * ((n + 1) * (n + 1)) ≤ 1000000)
     (c.operations.ensures.operations ∙ ended_operations us c.execute_all.new.meter count c.operations.ensures.going) c.in_ok-check_size.ensures.small
-
-pub first_frame-requires-clause-small : goal.first_frame-requires-clause-small
-first_frame-requires-clause-small c = subst (λ (d : Draft). length d.maps < 2 ^ 32) c.in_ok-values.ensures.values c.in_ok-values.ensures.small

@@ -1,11 +1,8 @@
 -- What statements do and what stops in them, one after the other.
-use Rattle.std.proofs.Common.{rules, ℕ, ◌≡◌, ◌++◌, ◌∷◌, [], List, take, flat_map, refl, sym, ap, subst, ◌∙◌, arith}
-use Rattle.std.specs.Prelude.{fold}
+use Rattle.std.proofs.Common.{rules, ℕ, ◌++◌, ◌∷◌, [], List, take, flat_map, sym, ap, subst, ◌∙◌, arith}
 use Rattle.std.proofs.lemmas.List.{take_more, append-nil}
-use Rattle.std.proofs.lemmas.List.Sums.{fold-append}
 use Rattle.std.proofs.lemmas.Result.{on_ok_weaker}
 use Rattle.mk_ast.specs.declared.tree.Decl.{Decl}
-use Rattle.mk_ast.specs.declared.tree.Stmt.{Stmt}
 use Rattle.mk_ast.specs.declared.tree.Stmt.TheViews.{the_lemmas}
 use Rattle.mk_field.specs.declared.field.FieldId.{FieldId}
 use Rattle.mk_ssa.specs.Values.{Draft}

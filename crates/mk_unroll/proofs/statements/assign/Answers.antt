@@ -1,5 +1,5 @@
 -- What stops in the value stops all, and the target takes what was given.
-use Rattle.std.proofs.Common.{Bool, true, List, ◌≡◌, ◌++◌, sym, ap, subst, ◌∙◌}
+use Rattle.std.proofs.Common.{Bool, true, ◌≡◌, ◌++◌, ap, subst, ◌∙◌}
 use Rattle.mk_ssa.specs.Values.{IsSharedThere}
 use Rattle.mk_types.specs.Scope.{declared, is_variable, is_shared_class}
 use Rattle.mk_types.specs.Elements.{number_of}
@@ -36,4 +36,4 @@ returns-clause-becomes c =
     (subst (λ (b : Bool). Gives c.operand_of.new.values (lifted_if b (record { operand = c.in_ok-given.given; values = c.operand_of.new.values.values }))
     c.lift_if.new.values v) same c.in_ok-operand.ensures.given))
     (subst (λ (b : Bool). b ≡ true → IsSharedThere c.lift_if.new.values v) same c.in_ok-operand.ensures.shared)
-    (c.number-number.ensures.number ∙ ap (number_of decls) c.as_slice-name.ensures.items) c.in_ok-index.ensures.value c.write.ensures
+    (c.number-number.ensures ∙ ap (number_of decls) c.as_slice-name.ensures.items) c.in_ok-index.ensures.value c.write.ensures

@@ -3,7 +3,7 @@ use Rattle.std.proofs.Common.{◌≢◌, sym, ◌∙◌, rules, tests}
 use Rattle.std.specs.Prelude.{codes, ◌==◌}
 use Rattle.std.proofs.lemmas.Iterator.{cases_from_all}
 use Rattle.std.proofs.lemmas.Iterator.Splits.{YieldsList-from_slice_split}
-use Rattle.mk_words.specs.Forms.{IsNumber}
+use Rattle.mk_words.specs.Numbers.{IsNumber}
 use Rattle.mk_words.proofs.Commands.{other-word}
 use Rattle.mk_words.proofs.Decimals.{are-or-not}
 use Rattle.mk_words.proofs.numbers.are_probes.Goals as goal

@@ -1,5 +1,7 @@
 -- No instruction fits, and takes no random element.
-use Rattle.std.proofs.Common.{arith, refl}
+use Rattle.std.proofs.Common.{arith, refl, subst}
+use Rattle.std.specs.List.{AllByRecursion}
+use Rattle.mk_field.specs.Maps.{MapFits}
 use Rattle.mk_code.specs.Trace.{randoms}
 use Rattle.mk_code.proofs.builder.CodeBuilder.new.Goals as goal
 
@@ -15,5 +17,6 @@ invariant_of-result g c = rw c.new.ensures.items (
     few = omega arith;
     fit = tt;
   },
+  subst (AllByRecursion MapFits) c.as_slice.ensures.items c.walk_maps.ensures,
   refl,
 )

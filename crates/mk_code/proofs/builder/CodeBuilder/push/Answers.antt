@@ -9,7 +9,7 @@ use Rattle.mk_code.proofs.builder.CodeBuilder.push.Goals as goal
 pub overflow_add-self : goal.overflow_add-self
 overflow_add-self g c =
     let few : length c.self.inside.instrs.items ≤ 8388608 = c.self.invariant.0.few in
-    grind (arith, common_steps, randoms-le c.self.inside.instrs.items, takes-le c.args.instr, few, c.self.invariant.1)
+    grind (arith, common_steps, randoms-le c.self.inside.instrs.items, takes-le c.args.instr, few, c.self.invariant.2)
 
 pub invariant_of-self : goal.invariant_of-self
 invariant_of-self g c =
@@ -28,5 +28,6 @@ invariant_of-self g c =
         few = omega (arith, length-append is (i ∷ []), few);
         fit = AllFit-push g.F.Field.ID _ _ is i c.self.invariant.0.fit fits;
       },
-      omega (arith, randoms-push is i, c.self.invariant.1, c.randoms.ensures),
+      c.self.invariant.1,
+      omega (arith, randoms-push is i, c.self.invariant.2, c.randoms.ensures),
     )

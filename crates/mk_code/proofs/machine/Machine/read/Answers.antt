@@ -13,5 +13,5 @@ returns-clause-element c =
     c.index.ensures ∙ get_or_default_zero m.entries.items c.args.place c.index.result.now below in
     let element : c.index.result.now < size m.code.now.field =
     subst (λ (a : ℕ). a < size m.code.now.field) (sym e)
-    (AllBelow-at (size m.code.now.field) m.entries.items c.args.place below c.self.invariant.0.elements.below) in
+    (AllBelow-at (size m.code.now.field) m.entries.items c.args.place c.self.invariant.0.elements.below below) in
     rw (← c.self.view_is) element

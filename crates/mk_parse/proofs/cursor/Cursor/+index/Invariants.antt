@@ -1,3 +1,5 @@
+-- A call has fewer brackets left to open, or as many and a phrase that stands within the caller's.
+-- The loops read on as the reader of many parts does, with fewer tokens left at each turn.
 use Rattle.std.proofs.Common.{◌∷◌, codes, ◌+◌, ◌*◌, length}
 use Rattle.mk_parse.specs.Readers.{makes, every, past, says}
 use Rattle.mk_parse.specs.Reading.{index_inner, index_link_by, begins_link, index_product_by}

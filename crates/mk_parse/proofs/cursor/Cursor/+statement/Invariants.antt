@@ -1,3 +1,5 @@
+-- A call has fewer brackets left to open, or as many and a phrase that stands within the caller's.
+-- The loops read on as the reader of many parts does, with fewer tokens left at each turn.
 use Rattle.std.proofs.Common.{◌+◌, ◌*◌, length}
 use Rattle.mk_parse.specs.Readers.{every}
 use Rattle.mk_parse.specs.Reading.{begins_statement, statement_at}

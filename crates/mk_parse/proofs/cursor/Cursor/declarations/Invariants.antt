@@ -1,3 +1,4 @@
+-- The declarations are read as the reader of many parts does, with fewer tokens left at each turn.
 use Rattle.std.proofs.Common.{length}
 use Rattle.mk_parse.specs.Readers.{every}
 use Rattle.mk_parse.specs.Reading.{begins_declaration, declaration_by}

@@ -1,3 +1,4 @@
+-- The images are read as the reader of many parts does, with fewer tokens left at each turn.
 use Rattle.std.proofs.Common.{◌∷◌, codes, length}
 use Rattle.mk_parse.specs.Readers.{makes, every, past, says}
 use Rattle.mk_parse.specs.Reading.{image_by}

@@ -3,7 +3,7 @@ use Rattle.std.proofs.Common.{rules, ◌≡◌, ◌+◌, ◌*◌, replicate, sym
 use Rattle.std.proofs.lemmas.List.{length-replicate}
 use Rattle.mk_field.specs.Field.{size}
 use Rattle.mk_code.specs.Counting.{Elements}
-use Rattle.mk_code.proofs.Steps.{zero-element}
+use Rattle.mk_field.proofs.Sum.{zero-element}
 use Rattle.mk_run.proofs.Shares.{AllBelow-zeros}
 use Rattle.mk_run.proofs.runner.Runner.new.Goals as goal
 

@@ -1,8 +1,0 @@
-use Rattle.std.proofs.Common.{◌≡◌, ◌<◌, take}
-use Rattle.mk_field.specs.Field.{size}
-use Rattle.mk_field.specs.Sharing.{field_sum}
-use Rattle.mk_share.proofs.share.sum.Given as goal
-
--- the sum so far is that of the elements before this one
-abbrev pub invariant-loop-element : goal.invariant-loop-element
-invariant-loop-element g l = (l.sum ≡ field_sum (take l.element-index l.elements)) × (l.sum < size g.F.Field.ID)
