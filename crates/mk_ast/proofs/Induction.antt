@@ -49,6 +49,7 @@ module _ (P : Index → Type 0) (Q : Link → Type 0)
   link_case (Link-F.Times y) = subst Q (sym (index_views.rolls-Times _)) (times y.0 y.1)
   link_case (Link-F.Mod n) = subst Q (sym (index_views.rolls-Mod n)) (rest n)
 
+  -- what holds of each index by its parts holds of all
   pub index_induction : (i : Index) → P i
   index_induction =
       ind-Index P Q (λ x y is. subst (λ d. P (index_views.roll-Index d)) is (index_case y)) (λ x y is. subst (λ d. Q (index_views.roll-Link d)) is (link_case y))
@@ -67,6 +68,7 @@ module _ (P : Expr → Type 0)
   expr_case (Expr-F.Sum ys) = subst P (sym (expr_views.rolls-Sum _)) (sum (map (λ y. y.0) ys) (beside P ys))
   expr_case (Expr-F.Product ys) = subst P (sym (expr_views.rolls-Product _)) (product (map (λ y. y.0) ys) (beside P ys))
 
+  -- what holds of each expression by its parts holds of all
   pub expr_induction : (e : Expr) → P e
   expr_induction = ind-Expr P (λ x y is. subst (λ d. P (expr_views.roll-Expr d)) is (expr_case y))
 
@@ -79,5 +81,6 @@ module _ (P : Stmt → Type 0)
   stmt_case (Stmt-F.Loop name at from to ys) =
       subst P (sym (stmt_views.rolls-Loop name at from to _)) (repeated name at from to (map (λ y. y.0) ys) (beside P ys))
 
+  -- what holds of each statement by its parts holds of all
   pub stmt_induction : (s : Stmt) → P s
   stmt_induction = ind-Stmt P (λ x y is. subst (λ d. P (stmt_views.roll-Stmt d)) is (stmt_case y))

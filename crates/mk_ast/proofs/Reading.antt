@@ -10,6 +10,7 @@ use Rattle.mk_ast.specs.Canonical.{joined}
 
 -- gaps and comments go on with gaps
 mutual
+  -- a gap and then another one are a gap
   pub IsGap-append : (g h : List ℕ) → IsGap g → IsGap h → IsGap (g ++ h)
   IsGap-append [] h p q = q
   IsGap-append (b ∷ g) h (inl p) q = inl (p.0, IsGap-append g h p.1 q)

@@ -121,10 +121,11 @@ element_is_byte v text x =
     omega (arith, x.7)
 
 module _ (brackets : ℕ) (inner : (tokens : List Token) (e : Expr) → inner_expr brackets tokens e → Within (IsRegularExpr e) brackets) where
-  -- an expression is regular as a factor, and as a part of a sum
+  -- an expression is regular as a factor
   abbrev FactorFits : Expr → Type 0
   FactorFits e = Wrapped (is_sum e || is_product e) (IsRegularExpr e) brackets
 
+  -- and as a part of a sum
   abbrev ProductFits : Expr → Type 0
   ProductFits e = Wrapped (is_sum e) (IsRegularExpr e) brackets
 

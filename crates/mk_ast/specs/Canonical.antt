@@ -1,7 +1,7 @@
 -- The canonical text of a program, by cases over its tree: each declaration and statement on a line of
 -- its own, parentheses exactly round a sum in a sum, a product or a chain, a product in a product and a
 -- chain in a chain. The language is this project's own; docs/LANGUAGE.md has its grammar.
-use Rattle.std.specs.Prelude.{ℕ, zero, suc, ◌+◌, Bool, true, false, ◌||◌, List, [], ◌∷◌, ◌++◌, Option, Some, None, map, flat_map, if◌then◌else◌, codes, decimal}
+use Rattle.std.specs.Prelude.{ℕ, zero, suc, Bool, true, false, ◌||◌, List, [], ◌∷◌, ◌++◌, Option, Some, None, map, flat_map, if◌then◌else◌, codes, decimal}
 use Rattle.mk_field.specs.declared.field.FieldId.{FieldId}
 use Rattle.mk_field.specs.declared.field.FieldId.TheVariants.{Gf2, Gf256}
 use Rattle.mk_field.specs.Digits.{hex_byte}

@@ -2,6 +2,7 @@
 -- their canonical texts keep the limit on brackets. A regular tree goes by the number of brackets that
 -- may still be opened, as the grammar does.
 use Rattle.std.specs.Prelude.{ℕ, zero, suc, ◌≤◌, ◌<◌, Bool, true, false, ◌||◌, length, Option, Some, None}
+use Rattle.mk_ast.specs.declared.TheConstants.{GREATEST_NUMBER}
 use Rattle.std.specs.List.{AllByRecursion}
 use Rattle.mk_ast.specs.declared.tree.Program.{Program}
 use Rattle.mk_ast.specs.declared.tree.Decl.{Decl}
@@ -23,11 +24,11 @@ use Rattle.mk_ast.specs.Canonical.{is_index_sum, is_chain, is_sum, is_product}
 
 -- a number of the language
 abbrev pub IsInRange : ℕ → Type 0
-IsInRange n = n ≤ 65535
+IsInRange n = n ≤ GREATEST_NUMBER
 
 -- a size, or what a remainder is taken by
 abbrev pub IsSize : ℕ → Type 0
-IsSize n = (1 ≤ n) × (n ≤ 65535)
+IsSize n = (1 ≤ n) × (n ≤ GREATEST_NUMBER)
 
 -- this holds within a pair of brackets, one of those that may still be opened
 abbrev pub Within : (ℕ → Type 0) → ℕ → Type 0

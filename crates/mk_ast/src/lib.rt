@@ -9,6 +9,9 @@ mod text;
 mod tree;
 mod writer;
 
+/// The greatest number of a source.
+pub const GREATEST_NUMBER: u32 = 65_535;
+
 pub use laws::spelled_law;
 pub use refusal::{Limit, SourceRefusal};
 pub use text::to_text;

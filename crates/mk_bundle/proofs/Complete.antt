@@ -19,20 +19,20 @@ use Rattle.mk_rules.specs.Claimed.{Claimed}
 use Rattle.mk_lines.specs.Words.{line, operand_word, is_line}
 use Rattle.mk_field.specs.Digits.{hex_byte}
 use Rattle.mk_lines.specs.CertLines.{op_line, claim_line}
-use Rattle.mk_lines.specs.CodeLines.{map_line, instr_line, place_word, out_line, out_lines}
+use Rattle.mk_lines.specs.CodeLines.{map_line, instr_line, position_word, out_line, out_lines}
 use Rattle.mk_ssa.specs.Widths.{OperandFits, OpFits}
 use Rattle.mk_field.specs.Maps.{MapFits}
 use Rattle.mk_bundle.specs.Text.{field_line, number_line, head_lines, text}
 use Rattle.mk_lines.specs.Lines.{AreLines}
 use Rattle.mk_rules.specs.Pairs.{IsPair}
 use Rattle.mk_bundle.specs.declared.draft.Stage.TheVariants.{Field, Order, Secrets, Publics, Upper, Lower, Ended}
-use Rattle.mk_lines.specs.Parsing.{◌>>=◌, after, places_of}
+use Rattle.mk_lines.specs.Parsing.{◌>>=◌, after, positions_of}
 use Rattle.mk_bundle.specs.Reading.{State, start, version_line, field_line_of, field_read, headed, order_read, secrets_read, publics_read, may_map, map_read, may_block, block_read, claim_read, code_read, upper_read, fits_at, may_instr, instr_read, out_read, lower_read, read_at, line_read, lines_read}
 use Rattle.mk_lines.proofs.Steps.{after_again}
 use Rattle.mk_lines.proofs.Numbers.{number_of_again}
-use Rattle.mk_lines.proofs.Spelled.{map_again, operand_of_again, places_again}
+use Rattle.mk_lines.proofs.Spelled.{map_again, operand_of_again, positions_again}
 use Rattle.mk_lines.proofs.Variants.{op_words, op_line-words, op_again, instr_words, InstrFits, instr_line-words, instr_again}
-use Rattle.mk_lines.proofs.Feeds.{is_line-decimal, is_line-images, is_line-places, is_line-operand, is_line-op, is_line-instr}
+use Rattle.mk_lines.proofs.Feeds.{is_line-decimal, is_line-images, is_line-positions, is_line-operand, is_line-op, is_line-instr}
 use Rattle.mk_bundle.proofs.Sound.{at}
 
 -- ---- runs over lines
@@ -241,7 +241,7 @@ is_byte Gf2 value small = omega (arith, small)
 is_byte Gf256 value small = omega (arith, small)
 
 -- in a trace of less than 2^32 entries the numbers of an instruction that fits have 32 bits
-instr_fits : (field : FieldId) (maps len : ℕ) (i : Instr) → maps ≤ 32768 → len < 2 ^ 32 → FitsAt field maps len i → InstrFits i
+pub instr_fits : (field : FieldId) (maps len : ℕ) (i : Instr) → maps ≤ 32768 → len < 2 ^ 32 → FitsAt field maps len i → InstrFits i
 instr_fits field maps len instr.Rnd few short fits = tt
 instr_fits field maps len (instr.Const value) few short fits = is_byte field value fits
 instr_fits field maps len (instr.Copy from) few short fits = omega (arith, fits)
@@ -290,48 +290,48 @@ instr_runs code cert listing done i left e =
     subst (λ (bytes : List ℕ). Runs (with_instrs code cert done) bytes (with_instrs code cert (done ++ i ∷ []))) (sym (instr_line-words i))
     (one_runs (with_instrs code cert done) (with_instrs code cert (done ++ i ∷ [])) (instr_words i) (is_line-instr i fit) (instr_next (with_instrs code cert done) i ∙ rw (instr_again i fit, few, fits) refl))
 
--- where each place is below a length, all of them are
+-- where each position is below a length, all of them are
 all_by : (len : ℕ) (xs : List ℕ) → ((k d : ℕ) → k < length xs → slice_index_or xs k d < len) → AllByRecursion (λ p. p < len) xs
 all_by len [] all = tt
 all_by len (x ∷ xs) all = (all 0 0 (omega arith), all_by len xs (λ k d below. all (suc k) d (omega (arith, below))))
 
--- places below a length are below any greater one
+-- positions below a length are below any greater one
 all_small : (len most : ℕ) (xs : List ℕ) → len ≤ most → AllByRecursion (λ p. p < len) xs → AllByRecursion (λ p. p < most) xs
 all_small len most [] le all = tt
 all_small len most (x ∷ xs) le all = (let low : x < len = all.0 in omega arith, all_small len most xs le all.1)
 
 -- the line of an output leads from the outputs before it to these with it
-out_runs : (code : Listing) (cert : Claimed) (done places : List ℕ) → length places ≡ code.order + 1 → length done < 65536 * (code.order + 1) → trace_len code < 2 ^ 32 → AllByRecursion (λ p. p < trace_len code) places
-    → Runs (with_outs code cert done) (out_line places) (with_outs code cert (done ++ places))
+out_runs : (code : Listing) (cert : Claimed) (done positions : List ℕ) → length positions ≡ code.order + 1 → length done < 65536 * (code.order + 1) → trace_len code < 2 ^ 32 → AllByRecursion (λ p. p < trace_len code) positions
+    → Runs (with_outs code cert done) (out_line positions) (with_outs code cert (done ++ positions))
 unfolding read_at lower_read after out_read
-out_runs code cert done places one room short all =
-    let found : places_of (code.order + 1) (trace_len code) (flat_map place_word places) ≡ Some places =
-    ap (λ (n : ℕ). places_of n (trace_len code) (flat_map place_word places)) (sym one) ∙ places_again (trace_len code) places short all in
-    one_runs (with_outs code cert done) (with_outs code cert (done ++ places)) (codes "out" ++ flat_map place_word places)
-    (is_line-places places (all_small (trace_len code) (2 ^ 32) places (omega arith) all))
+out_runs code cert done positions one room short all =
+    let found : positions_of (code.order + 1) (trace_len code) (flat_map position_word positions) ≡ Some positions =
+    ap (λ (n : ℕ). positions_of n (trace_len code) (flat_map position_word positions)) (sym one) ∙ positions_again (trace_len code) positions short all in
+    one_runs (with_outs code cert done) (with_outs code cert (done ++ positions)) (codes "out" ++ flat_map position_word positions)
+    (is_line-positions positions (all_small (trace_len code) (2 ^ 32) positions (omega arith) all))
     (rw (lt-ltb (length done) (65536 * (code.order + 1)) room, found) refl)
 
 -- the lines of the outputs that are left lead from those before them to all
 outs_run : (code : Listing) (cert : Claimed) → trace_len code < 2 ^ 32 → AllByRecursion (λ p. p < trace_len code) code.outs → length code.outs ≤ 65536 * (code.order + 1)
-    → (outputs : ℕ) (places done : List ℕ) → length places ≡ outputs * (code.order + 1) → done ++ places ≡ code.outs
-    → Runs (with_outs code cert done) (out_lines (code.order + 1) outputs places) (with_outs code cert code.outs)
+    → (outputs : ℕ) (positions done : List ℕ) → length positions ≡ outputs * (code.order + 1) → done ++ positions ≡ code.outs
+    → Runs (with_outs code cert done) (out_lines (code.order + 1) outputs positions) (with_outs code cert code.outs)
 unfolding out_lines
-outs_run code cert short all most zero places done len e =
-    let none : places ≡ [] = nil_from_length places (omega (arith, len)) in
+outs_run code cert short all most zero positions done len e =
+    let none : positions ≡ [] = nil_from_length positions (omega (arith, len)) in
     let same : done ≡ code.outs = sym (append-nil done) ∙ ap (λ (r : List ℕ). done ++ r) (sym none) ∙ e in
     subst (λ (outs : List ℕ). Runs (with_outs code cert done) [] (with_outs code cert outs)) same (none_runs (with_outs code cert done))
-outs_run code cert short all most (suc outputs) places done len e =
+outs_run code cert short all most (suc outputs) positions done len e =
     let shares : ℕ = code.order + 1 in
-    let long : shares ≤ length places = omega (arith, len) in
-    let first : length (take shares places) ≡ shares = length-take-le shares places long in
-    let parts : take shares places ++ drop shares places ≡ places = take-append-drop shares places in
-    let left : length (drop shares places) ≡ outputs * shares = omega (arith, len, length-drop shares places) in
-    let regrouped : (done ++ take shares places) ++ drop shares places ≡ code.outs = append_assoc done (take shares places) (drop shares places) ∙ ap (λ (r : List ℕ). done ++ r) parts ∙ e in
-    let below : AllByRecursion (λ p. p < trace_len code) places = All-back (λ p. p < trace_len code) done places (subst (AllByRecursion (λ p. p < trace_len code)) (sym e) all) in
-    let here : AllByRecursion (λ p. p < trace_len code) (take shares places) = All-front (λ p. p < trace_len code) (take shares places) (drop shares places) (subst (AllByRecursion (λ p. p < trace_len code)) (sym parts) below) in
-    both_run (with_outs code cert done) (with_outs code cert (done ++ take shares places)) (with_outs code cert code.outs) (out_line (take shares places)) (out_lines shares outputs (drop shares places))
-    (out_runs code cert done (take shares places) first (omega (arith, most, long, ap length e, length-append done places)) short here)
-    (outs_run code cert short all most outputs (drop shares places) (done ++ take shares places) left regrouped)
+    let long : shares ≤ length positions = omega (arith, len) in
+    let first : length (take shares positions) ≡ shares = length-take-le shares positions long in
+    let parts : take shares positions ++ drop shares positions ≡ positions = take-append-drop shares positions in
+    let left : length (drop shares positions) ≡ outputs * shares = omega (arith, len, length-drop shares positions) in
+    let regrouped : (done ++ take shares positions) ++ drop shares positions ≡ code.outs = append_assoc done (take shares positions) (drop shares positions) ∙ ap (λ (r : List ℕ). done ++ r) parts ∙ e in
+    let below : AllByRecursion (λ p. p < trace_len code) positions = All-back (λ p. p < trace_len code) done positions (subst (AllByRecursion (λ p. p < trace_len code)) (sym e) all) in
+    let here : AllByRecursion (λ p. p < trace_len code) (take shares positions) = All-front (λ p. p < trace_len code) (take shares positions) (drop shares positions) (subst (AllByRecursion (λ p. p < trace_len code)) (sym parts) below) in
+    both_run (with_outs code cert done) (with_outs code cert (done ++ take shares positions)) (with_outs code cert code.outs) (out_line (take shares positions)) (out_lines shares outputs (drop shares positions))
+    (out_runs code cert done (take shares positions) first (omega (arith, most, long, ap length e, length-append done positions)) short here)
+    (outs_run code cert short all most outputs (drop shares positions) (done ++ take shares positions) left regrouped)
 
 -- the last line leads from all outputs to the end
 end_runs : (code : Listing) (cert : Claimed) → Runs (with_outs code cert code.outs) (line (codes "end")) (at Ended code cert)

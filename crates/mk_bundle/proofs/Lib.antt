@@ -2,3 +2,12 @@ pub mod Appended
 pub mod Sound
 pub mod Complete
 pub mod Naming
+pub mod Sending
+pub mod Coming
+pub mod Agreeing
+pub mod Following
+pub mod Short
+pub mod Stepping
+pub mod Marking
+pub mod Ending
+pub mod Gathering

@@ -8,25 +8,25 @@ use Rattle.mk_rules.specs.Claimed.{Claimed}
 use Rattle.mk_lines.specs.Words.{line, is_line}
 use Rattle.mk_lines.specs.CertLines.{op_line, claim_line}
 use Rattle.mk_lines.specs.CodeLines.{map_line, instr_line, out_lines}
-use Rattle.mk_bundle.specs.Text.{field_line, number_line, head_lines, text}
+use Rattle.mk_bundle.specs.Text.{field_line, number_line, head_lines, upper_text, lower_text, text}
 use Rattle.mk_lines.specs.Lines.{AreLines, BeginsWith, GoesWellFor, NamesFirst}
 use Rattle.mk_rules.specs.Pairs.{IsPair}
 use Rattle.mk_bundle.specs.Pairs.{IsBundleText, TextsDiffer}
 use Rattle.mk_bundle.specs.declared.draft.Stage.{Stage}
 use Rattle.mk_bundle.specs.declared.draft.Stage.TheVariants.{Version, Field, Order, Secrets, Publics, Upper, Lower, Ended}
 use Rattle.mk_lines.specs.Parsing.{◌>>=◌}
-use Rattle.mk_bundle.specs.Reading.{State, start, read_at, line_read, lines_read, HasBounds}
+use Rattle.mk_bundle.specs.Reading.{State, start, read_at, line_read, lines_read}
 use Rattle.mk_lines.proofs.Steps.{bind_some, same_some}
 use Rattle.mk_lines.proofs.Feeds.{first_line, has_feed}
-use Rattle.mk_bundle.proofs.Sound.{at, text_at, upper_text, lower_text, Good, IsFresh, fresh_pair, line_goes}
+use Rattle.mk_bundle.proofs.Sound.{at, text_at, Good, IsFresh, fresh_pair, line_goes}
 use Rattle.mk_bundle.proofs.Complete.{text_runs, lines_read-append, All-append, All-front, All-back}
 
 -- what was read so far is good at its stage
-abbrev GoodAt : State → Type 0
+abbrev pub GoodAt : State → Type 0
 GoodAt st = Good st.stage st.code st.cert
 
 -- the text of what was read so far
-abbrev so_far : State → List ℕ
+abbrev pub so_far : State → List ℕ
 so_far st = text_at st.stage st.code st.cert
 
 -- ---- what was read
@@ -50,12 +50,6 @@ all_go (l ∷ lines) from to good e =
 -- lines that are read from the start on lead to a good state, and its text is these lines
 pub reached : (lines : List (List ℕ)) (st : State) → lines_read start lines ≡ Some st → GoodAt st × (so_far st ≡ flat_map line lines)
 reached lines st e = all_go lines start st start_good e
-
--- a code of which lines were read keeps the bounds
-pub bounds : (lines : List (List ℕ)) (st : State) → lines_read start lines ≡ Some st → HasBounds st.code
-bounds lines st e =
-    let listing = (reached lines st e).0.pair.listing in
-    record { order = listing.order.1; secrets = listing.secrets; publics = listing.publics; few = listing.few }
 
 -- ---- the text of the pair goes on with it
 

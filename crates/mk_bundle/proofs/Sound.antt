@@ -24,29 +24,21 @@ use Rattle.mk_ssa.specs.Widths.{OperandFits, OpFits}
 use Rattle.mk_lines.specs.CertLines.{op_line, claim_line}
 use Rattle.mk_lines.specs.CodeLines.{map_line, instr_line, out_line, out_lines}
 use Rattle.mk_field.specs.Maps.{MapFits}
-use Rattle.mk_bundle.specs.Text.{field_line, number_line, head_lines, text}
+use Rattle.mk_bundle.specs.Text.{field_line, number_line, head_lines, upper_text, lower_text, text}
 use Rattle.mk_rules.specs.Pairs.{IsPair}
 use Rattle.mk_bundle.specs.declared.draft.Stage.{Stage}
 use Rattle.mk_bundle.specs.declared.draft.Stage.TheVariants.{Version, Field, Order, Secrets, Publics, Upper, Lower, Ended}
-use Rattle.mk_lines.specs.Parsing.{◌>>=◌, after, number_of, map_of, operand_of, op_of, instr_of, places_of}
+use Rattle.mk_lines.specs.Parsing.{◌>>=◌, after, number_of, map_of, operand_of, op_of, instr_of, positions_of}
 use Rattle.mk_bundle.specs.Reading.{State, version_line, field_line_of, field_read, headed, order_read, secrets_read, publics_read, may_map, map_read, may_block, block_read, claim_read, code_read, upper_read, fits_at, may_instr, instr_read, out_read, lower_read, read_at}
 use Rattle.mk_bundle.proofs.Appended.{out_lines-none}
 use Rattle.mk_lines.proofs.Steps.{bind_some, same_some, chosen, passed, not_passed, after_found, behind_found, is_word}
 use Rattle.mk_lines.proofs.Numbers.{number_of_found}
-use Rattle.mk_lines.proofs.Spelled.{map_found, operand_of_found, places_found}
+use Rattle.mk_lines.proofs.Spelled.{map_found, operand_of_found, positions_found}
 use Rattle.mk_lines.proofs.Variants.{op_line-words, op_found, instr_line-words, instr_found}
 
 -- a state of these parts
 abbrev pub at : Stage → Listing → Claimed → State
 at stage code cert = record { stage = stage; code = code; cert = cert }
-
--- the text before a line between the head and the code: the head, and the maps, blocks and claims so far
-abbrev pub upper_text : Listing → Claimed → List ℕ
-upper_text code cert = head_lines code ++ flat_map map_line code.maps ++ flat_map op_line cert.blocks ++ flat_map claim_line cert.claims
-
--- the text before a line of the code: what stands before the code, its instructions and outputs so far
-abbrev pub lower_text : Listing → Claimed → List ℕ
-lower_text code cert = upper_text code cert ++ line (codes "code") ++ flat_map instr_line code.instrs ++ out_lines (code.order + 1) (length code.outs / (code.order + 1)) code.outs
 
 -- the text before the line of this stage
 abbrev pub text_at : Stage → Listing → Claimed → List ℕ
@@ -166,7 +158,7 @@ version_goes code cert l next good e =
     subst (Goes Version code cert l) (same_some (at Field code cert) next h.1) (record { good = record { pair = good.pair; blank = good.blank }; more = ap line (sym is) })
 
 -- a line that names a field is the line of that field
-field_of_found : (l : List ℕ) (field : FieldId) → field_line_of l ≡ Some field → field_line field ≡ line l
+pub field_of_found : (l : List ℕ) (field : FieldId) → field_line_of l ≡ Some field → field_line field ≡ line l
 unfolding field_line_of
 field_of_found l field e = elim (chosen (bytes_eq l (codes "field gf2")) (Some Gf2) (cond (bytes_eq l (codes "field gf256")) (Some Gf256) None) (Some field) e) [
   | inl h ↦ ap field_line (sym (same_some Gf2 field h.1)) ∙ ap line (sym (is_word l (codes "field gf2") h.0))
@@ -188,7 +180,7 @@ field_goes code cert l next good e =
     })
 
 -- a line from which a number is read is the name and that number, which is within the limit
-headed_found : (name : List ℕ) (most : ℕ) (l : List ℕ) (n : ℕ) → headed name most l ≡ Some n → (l ≡ name ++ decimal n) × (n ≤ most)
+pub headed_found : (name : List ℕ) (most : ℕ) (l : List ℕ) (n : ℕ) → headed name most l ≡ Some n → (l ≡ name ++ decimal n) × (n ≤ most)
 unfolding headed
 headed_found name most l n e =
     let a = bind_some (after name l) (λ (rest : List ℕ). number_of rest >>= λ m. cond (nat_lt most m) None (Some m)) n e in
@@ -387,7 +379,7 @@ upper_goes code cert l next good e = elim (behind_found (codes "map ") l _ _ nex
 -- ---- instructions and outputs
 
 -- an instruction that passes the test fits behind so many entries
-fits_found : (field : FieldId) (maps len : ℕ) (i : Instr) → fits_at field maps len i ≡ true → FitsAt field maps len i
+pub fits_found : (field : FieldId) (maps len : ℕ) (i : Instr) → fits_at field maps len i ≡ true → FitsAt field maps len i
 unfolding fits_at
 fits_found field maps len instr.Rnd e = tt
 fits_found field maps len (instr.Const value) e = ltb-true value (size field) e
@@ -441,25 +433,25 @@ instr_goes code cert l next good e =
     last_instr head instrs i outs none spelled = simp (none, append-nil, flat_map-push instr_line instrs i, spelled, append_assoc)
 
 -- one more output
-pub out_lines-push : (shares outputs : ℕ) (outs places : List ℕ) → length outs ≡ outputs * shares → length places ≡ shares
-    → out_lines shares (suc outputs) (outs ++ places) ≡ out_lines shares outputs outs ++ out_line places
+pub out_lines-push : (shares outputs : ℕ) (outs positions : List ℕ) → length outs ≡ outputs * shares → length positions ≡ shares
+    → out_lines shares (suc outputs) (outs ++ positions) ≡ out_lines shares outputs outs ++ out_line positions
 unfolding out_lines
-out_lines-push shares zero outs places all one =
+out_lines-push shares zero outs positions all one =
     let none : outs ≡ [] = nil_from_length outs (omega (arith, all)) in
-    let is : take shares (outs ++ places) ≡ places = ap (λ (xs : List ℕ). take shares (xs ++ places)) none ∙ ap (λ (n : ℕ). take n places) (sym one) ∙ take-length places in
-    append-nil (out_line (take shares (outs ++ places))) ∙ ap out_line is
-out_lines-push shares (suc outputs) outs places all one =
+    let is : take shares (outs ++ positions) ≡ positions = ap (λ (xs : List ℕ). take shares (xs ++ positions)) none ∙ ap (λ (n : ℕ). take n positions) (sym one) ∙ take-length positions in
+    append-nil (out_line (take shares (outs ++ positions))) ∙ ap out_line is
+out_lines-push shares (suc outputs) outs positions all one =
     let long : shares ≤ length outs = omega (arith, all) in
-    let first : take shares (outs ++ places) ≡ take shares outs = take-append-le shares outs places long in
-    let left : drop shares (outs ++ places) ≡ drop shares outs ++ places = drop-append-le shares outs places long in
-    let rest = out_lines-push shares outputs (drop shares outs) places (omega (arith, length-drop shares outs, all)) one in
-    ap (λ (p : List ℕ). out_line p ++ out_lines shares (suc outputs) (drop shares (outs ++ places))) first
+    let first : take shares (outs ++ positions) ≡ take shares outs = take-append-le shares outs positions long in
+    let left : drop shares (outs ++ positions) ≡ drop shares outs ++ positions = drop-append-le shares outs positions long in
+    let rest = out_lines-push shares outputs (drop shares outs) positions (omega (arith, length-drop shares outs, all)) one in
+    ap (λ (p : List ℕ). out_line p ++ out_lines shares (suc outputs) (drop shares (outs ++ positions))) first
     ∙ ap (λ (p : List ℕ). out_line (take shares outs) ++ out_lines shares (suc outputs) p) left
     ∙ ap (λ (p : List ℕ). out_line (take shares outs) ++ p) rest
-    ∙ sym (append_assoc (out_line (take shares outs)) (out_lines shares outputs (drop shares outs)) (out_line places))
+    ∙ sym (append_assoc (out_line (take shares outs)) (out_lines shares outputs (drop shares outs)) (out_line positions))
 
--- where all places are below a length, each of them is
-all_below : (len : ℕ) (places : List ℕ) → AllByRecursion (λ p. p < len) places → (k d : ℕ) → k < length places → slice_index_or places k d < len
+-- where all positions are below a length, each of them is
+all_below : (len : ℕ) (positions : List ℕ) → AllByRecursion (λ p. p < len) positions → (k d : ℕ) → k < length positions → slice_index_or positions k d < len
 all_below len [] all k d below = absurd (omega (arith, below))
 all_below len (p ∷ ps) all zero d below = all.0
 all_below len (p ∷ ps) all (suc k) d below = all_below len ps all.1 k d (omega (arith, below))
@@ -469,20 +461,20 @@ out_goes : (code : Listing) (cert : Claimed) (l words : List ℕ) (next : State)
 unfolding out_read
 out_goes code cert l words next good here e =
     let shares : ℕ = code.order + 1 in
-    let h = passed (nat_lt (length code.outs) (65536 * shares)) (places_of shares (trace_len code) words >>= λ places. Some (at Lower (record code { outs = code.outs ++ places }) cert)) next e in
-    let a = bind_some (places_of shares (trace_len code) words) (λ (places : List ℕ). Some (at Lower (record code { outs = code.outs ++ places }) cert)) next h.1 in
-    let places = a.0 in
-    let made : Listing = record code { outs = code.outs ++ places } in
-    let found = places_found shares (trace_len code) words places a.1 in
+    let h = passed (nat_lt (length code.outs) (65536 * shares)) (positions_of shares (trace_len code) words >>= λ positions. Some (at Lower (record code { outs = code.outs ++ positions }) cert)) next e in
+    let a = bind_some (positions_of shares (trace_len code) words) (λ (positions : List ℕ). Some (at Lower (record code { outs = code.outs ++ positions }) cert)) next h.1 in
+    let positions = a.0 in
+    let made : Listing = record code { outs = code.outs ++ positions } in
+    let found = positions_found shares (trace_len code) words positions a.1 in
     let listing = good.pair.listing in
     let k : ℕ = listing.outputs.0 in
     let all : length code.outs ≡ k * shares = listing.outputs.2 in
     let room : length code.outs < 65536 * shares = ltb-true (length code.outs) (65536 * shares) h.0 in
     let few : k + 1 ≤ 65536 = fewer k shares (length code.outs) all room in
-    let longer : length (code.outs ++ places) ≡ (k + 1) * shares = length-append code.outs places ∙ (omega (arith, all, found.1)) in
-    let spelled : out_line places ≡ line l = ap (λ (w : List ℕ). line (codes "out" ++ w)) (sym found.0) ∙ ap line (sym here) in
+    let longer : length (code.outs ++ positions) ≡ (k + 1) * shares = length-append code.outs positions ∙ (omega (arith, all, found.1)) in
+    let spelled : out_line positions ≡ line l = ap (λ (w : List ℕ). line (codes "out" ++ w)) (sym found.0) ∙ ap line (sym here) in
     let before : length code.outs / shares ≡ k = ap (λ (n : ℕ). n / shares) all ∙ mul-div_cancel k (omega arith) in
-    let behind : length (code.outs ++ places) / shares ≡ suc k = ap (λ (n : ℕ). n / shares) longer ∙ mul-div_cancel (k + 1) (omega arith) ∙ add-one k in
+    let behind : length (code.outs ++ positions) / shares ≡ suc k = ap (λ (n : ℕ). n / shares) longer ∙ mul-div_cancel (k + 1) (omega arith) ∙ add-one k in
     subst (Goes Lower code cert l) (same_some (at Lower made cert) next a.2) (record {
       good = record {
         pair = record {
@@ -494,7 +486,7 @@ out_goes code cert l words next good here e =
             bytes = listing.bytes;
             few = listing.few;
             fit = listing.fit;
-            outs = All-append (λ p. p < trace_len code) code.outs places listing.outs (all_below (trace_len code) places found.2);
+            outs = All-append (λ p. p < trace_len code) code.outs positions listing.outs (all_below (trace_len code) positions found.2);
             outputs = (k + 1, few, longer);
           };
           order = good.pair.order;
@@ -506,16 +498,16 @@ out_goes code cert l words next good here e =
         };
         blank = tt;
       };
-      more = last_out (upper_text code cert ++ line (codes "code") ++ flat_map instr_line code.instrs) shares (length (code.outs ++ places) / shares) (length code.outs / shares) k code.outs places behind before all found.1 spelled;
+      more = last_out (upper_text code cert ++ line (codes "code") ++ flat_map instr_line code.instrs) shares (length (code.outs ++ positions) / shares) (length code.outs / shares) k code.outs positions behind before all found.1 spelled;
     })
   where
     fewer : (k shares len : ℕ) → len ≡ k * shares → len < 65536 * shares → k + 1 ≤ 65536
     fewer k shares len is below = let h : k * shares < 65536 * shares = rw is at below in omega (arith, lt_of_mul-lt-mul_right shares h)
 
-    last_out : (head : List ℕ) (shares m n k : ℕ) (outs places : List ℕ) → m ≡ suc k → n ≡ k → length outs ≡ k * shares → length places ≡ shares → out_line places ≡ line l
-        → head ++ out_lines shares m (outs ++ places) ≡ (head ++ out_lines shares n outs) ++ line l
-    last_out head shares m n k outs places more same all one spelled =
-        rw (more, same) (ap (λ (r : List ℕ). head ++ r) (out_lines-push shares k outs places all one ∙ ap (λ (r : List ℕ). out_lines shares k outs ++ r) spelled) ∙ sym (append_assoc head (out_lines shares k outs) (line l)))
+    last_out : (head : List ℕ) (shares m n k : ℕ) (outs positions : List ℕ) → m ≡ suc k → n ≡ k → length outs ≡ k * shares → length positions ≡ shares → out_line positions ≡ line l
+        → head ++ out_lines shares m (outs ++ positions) ≡ (head ++ out_lines shares n outs) ++ line l
+    last_out head shares m n k outs positions more same all one spelled =
+        rw (more, same) (ap (λ (r : List ℕ). head ++ r) (out_lines-push shares k outs positions all one ∙ ap (λ (r : List ℕ). out_lines shares k outs ++ r) spelled) ∙ sym (append_assoc head (out_lines shares k outs) (line l)))
 
 -- the last line, if it is read, goes on with the text so far
 end_goes : (code : Listing) (cert : Claimed) (l : List ℕ) (next : State) → Good Lower code cert → l ≡ codes "end" → at Ended code cert ≡ next → Goes Lower code cert l next

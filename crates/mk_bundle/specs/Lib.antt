@@ -1,4 +1,11 @@
 pub mod Text
 pub mod Sample
 pub mod Pairs
+pub mod Passing
+pub mod Events
 pub mod Reading
+pub mod Counting
+pub mod Taking
+pub mod Reads
+pub mod Stepping
+pub mod Gathering

@@ -1,5 +1,5 @@
--- Reading a bundle text line by line, as lists: for the contracts inside the crate, none of the public ones cites it.
-use Rattle.std.specs.Prelude.{◌≡◌, ℕ, ◌+◌, ◌*◌, ◌≤◌, Bool, true, ◌&&◌, List, [], ◌∷◌, ◌++◌, length, Option, Some, None, Result, Ok, Err, nat_lt, bytes_eq, codes, if◌then◌else◌}
+-- Reading a bundle text line by line, up to the pair that it is the text of.
+use Rattle.std.specs.Prelude.{ℕ, ◌+◌, ◌*◌, Bool, true, ◌&&◌, List, [], ◌∷◌, ◌++◌, length, Option, Some, None, nat_lt, bytes_eq, codes, if◌then◌else◌}
 use Rattle.mk_field.specs.declared.field.FieldId.{FieldId}
 use Rattle.mk_field.specs.declared.field.FieldId.TheVariants.{Gf2, Gf256}
 use Rattle.mk_field.specs.Field.{size, has_maps}
@@ -9,12 +9,9 @@ use Rattle.mk_code.specs.Listing.{Listing, trace_len}
 use Rattle.mk_code.specs.declared.TheConstants.{MOST_INPUTS, MOST_MAPS, MOST_INSTRS}
 use Rattle.mk_rules.specs.declared.TheConstants.{TEXT_TOP_ORDER, MOST_BLOCKS, MOST_CLAIMS}
 use Rattle.mk_rules.specs.Claimed.{Claimed}
-use Rattle.mk_bundle.specs.declared.draft.Draft.{Draft}
 use Rattle.mk_bundle.specs.declared.draft.Stage.{Stage}
 use Rattle.mk_bundle.specs.declared.draft.Stage.TheVariants.{Version, Field, Order, Secrets, Publics, Upper, Lower, Ended}
-use Rattle.mk_bundle.specs.declared.draft.LineRefusal.{LineRefusal}
-use Rattle.mk_bundle.specs.declared.draft.LineRefusal.TheVariants as refusals
-use Rattle.mk_lines.specs.Parsing.{◌>>=◌, after, number_of, map_of, operand_of, op_of, instr_of, behind, places_of}
+use Rattle.mk_lines.specs.Parsing.{◌>>=◌, after, number_of, map_of, operand_of, op_of, instr_of, behind, positions_of}
 
 -- what was read so far: where the next line stands, and the pair that the text has if only the lines
 -- that must come do come
@@ -30,20 +27,6 @@ start = record {
   code = record { field = Gf2; order = 1; secrets = 0; publics = 0; maps = []; instrs = []; outs = [] };
   cert = record { blocks = []; claims = [] };
 }
-
--- a draft, as what was read
-abbrev pub state_of : Draft → State
-state_of d = record {
-  stage = d.stage;
-  code = record { field = d.field; order = d.order; secrets = d.secrets; publics = d.publics; maps = d.maps; instrs = d.instrs; outs = d.outs };
-  cert = d.cert;
-}
-
--- what a step that changes the draft returned is what reading gives, unless memory ran out
-abbrev pub Steps : Result (Unit {0}) LineRefusal → State → Option State → Type 0
-Steps (Ok done) new read = read ≡ Some new
-Steps (Err refusals.Form) new read = read ≡ None
-Steps (Err refusals.Memory) new read = Unit {0}
 
 -- the line of the form's version
 unfoldable pub version_line : State → List ℕ → Option State
@@ -143,11 +126,11 @@ instr_read st line = do
   i ← instr_of line
   if may_instr st i then Some (record st { code = record st.code { instrs = st.code.instrs ++ i ∷ [] } }) else None
 
--- the places of one output more, by what stands behind `out`
+-- the positions of one output more, by what stands behind `out`
 unfoldable pub out_read : State → List ℕ → Option State
 out_read st words =
     if nat_lt (length st.code.outs) (MOST_INPUTS * (st.code.order + 1))
-    then (places_of (st.code.order + 1) (trace_len st.code) words >>= λ places. Some (record st { code = record st.code { outs = st.code.outs ++ places } }))
+    then (positions_of (st.code.order + 1) (trace_len st.code) words >>= λ positions. Some (record st { code = record st.code { outs = st.code.outs ++ positions } }))
     else None
 
 -- a line of the code: an output, the end or an instruction
@@ -175,16 +158,3 @@ line_read st line = read_at st.stage st line
 unfoldable pub lines_read : State → List (List ℕ) → Option State
 lines_read st [] = Some st
 lines_read st (line ∷ lines) = line_read st line >>= λ next. lines_read next lines
-
--- bounds that a count of entries needs
-pub record HasBounds (code : Listing) : Type 0 where
-  pub order : code.order ≤ TEXT_TOP_ORDER
-  pub secrets : code.secrets ≤ MOST_INPUTS
-  pub publics : code.publics ≤ MOST_INPUTS
-  pub few : length code.instrs ≤ MOST_INSTRS
-
--- what a function that appends places returned is what reading gives, unless memory ran out
-abbrev pub Appends : Result (Unit {0}) LineRefusal → List ℕ → List ℕ → Option (List ℕ) → Type 0
-Appends (Ok done) old new read = (places : List ℕ) × (read ≡ Some places) × (new ≡ old ++ places)
-Appends (Err refusals.Form) old new read = read ≡ None
-Appends (Err refusals.Memory) old new read = Unit {0}

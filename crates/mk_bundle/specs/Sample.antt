@@ -1,5 +1,5 @@
--- The texts of two small pairs, computed.
-use Rattle.std.specs.Prelude.{◌≡◌, ℕ, List, [], ◌∷◌, ◌++◌, codes, refl}
+-- The texts of two small pairs and the events of one, computed.
+use Rattle.std.specs.Prelude.{◌≡◌, ℕ, List, [], ◌∷◌, ◌++◌, flat_map, codes, refl}
 use Rattle.std.specs.Fmt.{digits}
 use Rattle.mk_field.specs.declared.field.FieldId.TheVariants.{Gf256}
 use Rattle.mk_ssa.specs.declared.Operand.TheVariants.{Secret, Public, Block}
@@ -10,6 +10,9 @@ use Rattle.mk_rules.specs.Claimed.{Claimed}
 use Rattle.mk_lines.specs.Words.{line}
 use Rattle.mk_lines.specs.CodeLines.{out_lines}
 use Rattle.mk_bundle.specs.Text.{text}
+use Rattle.mk_bundle.specs.declared.event.Event.{Event}
+use Rattle.mk_bundle.specs.declared.event.Event.TheVariants as event
+use Rattle.mk_bundle.specs.Events.{outs_of, events_of, event_text}
 
 -- the sum of two secrets: shares 0 and 1 are those of the first secret, 2 and 3 those of the second
 abbrev pub sum_code : Listing
@@ -39,6 +42,29 @@ sum_text =
 pub text-sum : text sum_code sum_cert ≡ sum_text
 unfolding digits out_lines
 text-sum = refl
+
+-- its eight events
+abbrev pub sum_events : List Event
+sum_events =
+    event.Head (record { field = Gf256; order = 1; secrets = 2; publics = 0; maps = [] })
+    ∷ event.Block (op.Add (Secret 0) (Secret 1))
+    ∷ event.Claim (Block 0)
+    ∷ event.Code
+    ∷ event.Instr (Add 0 2)
+    ∷ event.Instr (Add 1 3)
+    ∷ event.Out (4 ∷ 5 ∷ [])
+    ∷ event.End
+    ∷ []
+
+-- the events of the first pair are these
+pub events-sum : events_of sum_code sum_cert ≡ sum_events
+unfolding outs_of
+events-sum = refl
+
+-- they stand for its lines
+pub lines-sum : flat_map event_text sum_events ≡ sum_text
+unfolding digits
+lines-sum = refl
 
 -- a code with an instruction of each kind, and two outputs
 abbrev pub kinds_code : Listing

@@ -26,6 +26,18 @@ head_lines code =
     ++ number_line (codes "secrets") code.secrets
     ++ number_line (codes "publics") code.publics
 
+-- the lines of the outputs, each of which has as many positions as a value has shares
+abbrev pub outputs_text : Listing → List ℕ
+outputs_text code = out_lines (code.order + 1) (length code.outs / (code.order + 1)) code.outs
+
+-- the lines before that of the code: the head, the maps, the blocks and the claims
+abbrev pub upper_text : Listing → Claimed → List ℕ
+upper_text code cert = head_lines code ++ flat_map map_line code.maps ++ flat_map op_line cert.blocks ++ flat_map claim_line cert.claims
+
+-- the lines before the last one
+abbrev pub lower_text : Listing → Claimed → List ℕ
+lower_text code cert = upper_text code cert ++ line (codes "code") ++ flat_map instr_line code.instrs ++ outputs_text code
+
 -- the text: what is computed and claimed, and then how
 abbrev pub text : Listing → Claimed → List ℕ
 text code cert =
@@ -35,5 +47,5 @@ text code cert =
     ++ flat_map claim_line cert.claims
     ++ line (codes "code")
     ++ flat_map instr_line code.instrs
-    ++ out_lines (code.order + 1) (length code.outs / (code.order + 1)) code.outs
+    ++ outputs_text code
     ++ line (codes "end")

@@ -1,19 +1,23 @@
 //! What was read of a bundle text so far, and how a line goes on with it.
 
-ghost use Rattle.std.specs.Prelude.{◌≡◌, ◌≤◌, ◌+◌, ◌++◌, length, Some, IfSome, IsTrue, ◌↔◌};
+ghost use Rattle.std.specs.Prelude.{◌≡◌, ◌≤◌, ◌<◌, ◌+◌, [], IfSome, IsTrue, ◌↔◌};
 ghost use Rattle.mk_bundle.specs.declared.draft.Stage.TheVariants.{Ended};
-ghost use Rattle.mk_code.specs.Listing.{IsListing, trace_len};
-ghost use Rattle.mk_rules.specs.Pairs.{IsPair};
 ghost use Rattle.mk_field.specs.Field.{size};
-ghost use Rattle.mk_lines.specs.Parsing.{places_of};
-ghost use Rattle.mk_bundle.specs.Reading.{Appends, start, state_of, Steps, version_line, field_line_of, field_read, headed, order_read, secrets_read, publics_read, may_map, map_read, may_block, block_read, claim_read, code_read, upper_read, fits_at, may_instr, instr_read, out_read, lower_read, line_read, HasBounds};
+ghost use Rattle.mk_code.specs.declared.TheConstants.{MOST_MAPS, MOST_INSTRS};
+ghost use Rattle.mk_rules.specs.declared.TheConstants.{MOST_BLOCKS};
+ghost use Rattle.mk_lines.specs.Parsing.{positions_of};
+ghost use Rattle.mk_bundle.specs.Events.{has_begun};
+ghost use Rattle.mk_bundle.specs.Reading.{start, field_line_of, headed, fits_at};
+ghost use Rattle.mk_bundle.specs.Counting.{seen_of, summary, HasBounds, Steps, Gives, entries, version_counted, field_counted, order_counted, secrets_counted, publics_counted, map_counts, map_counted, block_counts, block_counted, claim_counted, code_counted, upper_counted, instr_counts, instr_counted, out_counted, lower_counted, line_counted};
 
+use crate::event::{Event, Head};
 use mk_base::{Items, Memory};
-use mk_code::{Code, Instr, InstrList, MOST_INPUTS, MOST_INSTRS, MOST_MAPS, MapList, PositionList};
+use mk_code::{Instr, MOST_INPUTS, MOST_INSTRS, MOST_MAPS, MapList, PositionList};
 use mk_field::FieldId;
 use mk_lines::{after, instr_of, map_of, number_at, number_of, op_of, operand_of};
-use mk_rules::{Bundle, Cert, MOST_BLOCKS, TEXT_TOP_ORDER};
+use mk_rules::{MOST_BLOCKS, MOST_CLAIMS, TEXT_TOP_ORDER};
 use std::alloc::Global;
+use std::mem;
 
 /// Which lines stand next.
 #[derive(Clone, Copy, Debug, PartialEq, Eq)]
@@ -36,18 +40,26 @@ pub(crate) enum Stage {
     Ended,
 }
 
-/// What was read so far.
-#[derive(Drop)]
+/// What is kept of what was read so far.
+#[derive(Debug, Drop)]
 pub(crate) struct Draft {
     pub stage: Stage,
     pub field: FieldId,
     pub order: u8,
     pub secrets: u32,
     pub publics: u32,
-    pub maps: MapList,
-    pub instrs: InstrList,
-    pub outs: PositionList,
-    pub cert: Cert,
+    /// The maps of which no event told yet.
+    pub untold: MapList,
+    /// How many maps there were.
+    pub maps: u32,
+    /// How many blocks there were.
+    pub blocks: u32,
+    /// How many claims there were.
+    pub claims: u32,
+    /// How many instructions there were.
+    pub instrs: u32,
+    /// How many positions of outputs there were.
+    pub outs: u32,
 }
 
 /// Why a line doesn't go on with a draft.
@@ -70,9 +82,13 @@ impl From<Memory> for LineRefusal {
     }
 }
 
+/// What a line is refused for, or the event that it gives, if it has one of its own.
+type Line = Result<Option<Event>, LineRefusal>;
+
 /// Before the first line.
 pub(crate) fn empty_draft(alloc: Global) -> Draft
-    ensures { state_of result ≡ start }
+    ensures empty { seen_of result ≡ summary start [] }
+    ensures bounds { HasBounds (seen_of result) }
 {
     Draft {
         stage: Stage::Version,
@@ -80,23 +96,27 @@ pub(crate) fn empty_draft(alloc: Global) -> Draft
         order: 1,
         secrets: 0,
         publics: 0,
-        maps: Items::new(alloc),
-        instrs: Items::new(alloc),
-        outs: Items::new(alloc),
-        cert: Cert::new(alloc),
+        untold: Items::new(alloc),
+        maps: 0,
+        blocks: 0,
+        claims: 0,
+        instrs: 0,
+        outs: 0,
     }
 }
 
 /// The line of the version.
-#[tactic(auto, unfolding(crate::specs::Reading::version_line))]
-fn read_version(draft: &mut Draft, line: &[u8]) -> Result<(), LineRefusal>
-    ensures { Steps result (state_of draft.new) (version_line (state_of draft.old) line.now) }
+#[tactic(auto, unfolding(crate::specs::Counting::version_counted))]
+fn read_version(draft: &mut Draft, line: &[u8]) -> Line
+    requires { HasBounds (seen_of draft.old) }
+    ensures steps { Steps result (seen_of draft.new) (version_counted (seen_of draft.old) line.now) }
+    ensures bounds { HasBounds (seen_of draft.new) }
 {
     if line != b"mask 1".as_slice() {
         return Err(LineRefusal::Form);
     }
     draft.stage = Stage::Field;
-    Ok(())
+    Ok(None)
 }
 
 /// The field of its line.
@@ -114,14 +134,16 @@ fn field_of(line: &[u8]) -> Option<FieldId>
 }
 
 /// The line of the field.
-#[tactic(auto, unfolding(crate::specs::Reading::field_read))]
-fn read_field(draft: &mut Draft, line: &[u8]) -> Result<(), LineRefusal>
-    ensures { Steps result (state_of draft.new) (field_read (state_of draft.old) line.now) }
+#[tactic(auto, unfolding(crate::specs::Counting::field_counted))]
+fn read_field(draft: &mut Draft, line: &[u8]) -> Line
+    requires { HasBounds (seen_of draft.old) }
+    ensures steps { Steps result (seen_of draft.new) (field_counted (seen_of draft.old) line.now) }
+    ensures bounds { HasBounds (seen_of draft.new) }
 {
     let field = field_of(line).ok_or(LineRefusal::Form)?;
     draft.field = field;
     draft.stage = Stage::Order;
-    Ok(())
+    Ok(None)
 }
 
 /// The number in a line that begins so, at most `most`.
@@ -139,9 +161,11 @@ fn headed(name: &[u8], most: u32, line: &[u8]) -> Option<u32>
 }
 
 /// The line of the order.
-#[tactic(auto, unfolding(crate::specs::Reading::order_read))]
-fn read_order(draft: &mut Draft, line: &[u8]) -> Result<(), LineRefusal>
-    ensures { Steps result (state_of draft.new) (order_read (state_of draft.old) line.now) }
+#[tactic(auto, unfolding(crate::specs::Counting::order_counted))]
+fn read_order(draft: &mut Draft, line: &[u8]) -> Line
+    requires { HasBounds (seen_of draft.old) }
+    ensures steps { Steps result (seen_of draft.new) (order_counted (seen_of draft.old) line.now) }
+    ensures bounds { HasBounds (seen_of draft.new) }
 {
     let number = headed(b"order ", u32::from(TEXT_TOP_ORDER), line).ok_or(LineRefusal::Form)?;
     if number < 1 {
@@ -149,105 +173,119 @@ fn read_order(draft: &mut Draft, line: &[u8]) -> Result<(), LineRefusal>
     }
     draft.order = number as u8;
     draft.stage = Stage::Secrets;
-    Ok(())
+    Ok(None)
 }
 
 /// The line of the number of secrets.
-#[tactic(auto, unfolding(crate::specs::Reading::secrets_read))]
-fn read_secrets(draft: &mut Draft, line: &[u8]) -> Result<(), LineRefusal>
-    ensures { Steps result (state_of draft.new) (secrets_read (state_of draft.old) line.now) }
+#[tactic(auto, unfolding(crate::specs::Counting::secrets_counted))]
+fn read_secrets(draft: &mut Draft, line: &[u8]) -> Line
+    requires { HasBounds (seen_of draft.old) }
+    ensures steps { Steps result (seen_of draft.new) (secrets_counted (seen_of draft.old) line.now) }
+    ensures bounds { HasBounds (seen_of draft.new) }
 {
     let number = headed(b"secrets ", MOST_INPUTS, line).ok_or(LineRefusal::Form)?;
     draft.secrets = number;
     draft.stage = Stage::Publics;
-    Ok(())
+    Ok(None)
 }
 
 /// The line of the number of publics.
-#[tactic(auto, unfolding(crate::specs::Reading::publics_read))]
-fn read_publics(draft: &mut Draft, line: &[u8]) -> Result<(), LineRefusal>
-    ensures { Steps result (state_of draft.new) (publics_read (state_of draft.old) line.now) }
+#[tactic(auto, unfolding(crate::specs::Counting::publics_counted))]
+fn read_publics(draft: &mut Draft, line: &[u8]) -> Line
+    requires { HasBounds (seen_of draft.old) }
+    ensures steps { Steps result (seen_of draft.new) (publics_counted (seen_of draft.old) line.now) }
+    ensures bounds { HasBounds (seen_of draft.new) }
 {
     let number = headed(b"publics ", MOST_INPUTS, line).ok_or(LineRefusal::Form)?;
     draft.publics = number;
     draft.stage = Stage::Upper;
-    Ok(())
+    Ok(None)
 }
 
 /// Whether a map may stand here: before blocks and claims.
-#[tactic(auto, unfolding(crate::specs::Reading::may_map))]
+#[tactic(auto, unfolding(crate::specs::Counting::map_counts))]
 fn may_map(draft: &Draft) -> bool
-    ensures { result ≡ may_map (state_of draft.now) }
+    ensures counts { result ≡ map_counts (seen_of draft.now) }
+    ensures few { IsTrue result → draft.now.maps < MOST_MAPS }
 {
-    draft.field.has_maps()
-        && draft.cert.blocks().len() < 1
-        && draft.cert.claims().len() < 1
-        && draft.maps.len() < MOST_MAPS as usize
+    draft.field.has_maps() && draft.blocks < 1 && draft.claims < 1 && draft.maps < MOST_MAPS
 }
 
 /// The line of a map, behind its first word.
-#[tactic(auto, unfolding(crate::specs::Reading::map_read))]
-fn read_map(draft: &mut Draft, words: &[u8]) -> Result<(), LineRefusal>
-    ensures { Steps result (state_of draft.new) (map_read (state_of draft.old) words.now) }
+#[tactic(auto, unfolding(crate::specs::Counting::map_counted))]
+fn read_map(draft: &mut Draft, words: &[u8]) -> Line
+    requires { HasBounds (seen_of draft.old) }
+    ensures steps { Steps result (seen_of draft.new) (map_counted (seen_of draft.old) words.now) }
+    ensures bounds { HasBounds (seen_of draft.new) }
 {
     let map = map_of(words).ok_or(LineRefusal::Form)?;
     if !may_map(draft) {
         return Err(LineRefusal::Form);
     }
-    draft.maps.push(map)?;
-    Ok(())
+    draft.untold.push(map)?;
+    draft.maps += 1;
+    Ok(None)
 }
 
 /// Whether a block may stand here: before claims.
-#[tactic(auto, unfolding(crate::specs::Reading::may_block))]
+#[tactic(auto, unfolding(crate::specs::Counting::block_counts))]
 fn may_block(draft: &Draft) -> bool
-    ensures { result ≡ may_block (state_of draft.now) }
+    ensures counts { result ≡ block_counts (seen_of draft.now) }
+    ensures few { IsTrue result → draft.now.blocks < MOST_BLOCKS }
 {
-    draft.cert.claims().len() < 1 && draft.cert.blocks().len() < MOST_BLOCKS as usize
+    draft.claims < 1 && draft.blocks < MOST_BLOCKS
 }
 
 /// The line of a block, behind its first word.
-#[tactic(auto, unfolding(crate::specs::Reading::block_read))]
-fn read_block(draft: &mut Draft, words: &[u8]) -> Result<(), LineRefusal>
-    ensures { Steps result (state_of draft.new) (block_read (state_of draft.old) words.now) }
+#[tactic(auto, unfolding(crate::specs::Counting::block_counted))]
+fn read_block(draft: &mut Draft, words: &[u8]) -> Line
+    requires { HasBounds (seen_of draft.old) }
+    ensures steps { Steps result (seen_of draft.new) (block_counted (seen_of draft.old) words.now) }
+    ensures bounds { HasBounds (seen_of draft.new) }
 {
     let op = op_of(words).ok_or(LineRefusal::Form)?;
     if !may_block(draft) {
         return Err(LineRefusal::Form);
     }
-    draft.cert.push_block(op)?;
-    Ok(())
+    draft.blocks += 1;
+    Ok(Some(Event::Block(op)))
 }
 
 /// The line of a claim, behind its first word.
-#[tactic(auto, unfolding(crate::specs::Reading::claim_read))]
-fn read_claim(draft: &mut Draft, words: &[u8]) -> Result<(), LineRefusal>
-    ensures { Steps result (state_of draft.new) (claim_read (state_of draft.old) words.now) }
+#[tactic(auto, unfolding(crate::specs::Counting::claim_counted))]
+fn read_claim(draft: &mut Draft, words: &[u8]) -> Line
+    requires { HasBounds (seen_of draft.old) }
+    ensures steps { Steps result (seen_of draft.new) (claim_counted (seen_of draft.old) words.now) }
+    ensures bounds { HasBounds (seen_of draft.new) }
 {
     let value = operand_of(words).ok_or(LineRefusal::Form)?;
-    if draft.cert.claims().len() >= MOST_INPUTS as usize {
+    if draft.claims >= MOST_CLAIMS {
         return Err(LineRefusal::Form);
     }
-    draft.cert.push_claim(value)?;
-    Ok(())
+    draft.claims += 1;
+    Ok(Some(Event::Claim(value)))
 }
 
 /// The line `code`.
-#[tactic(auto, unfolding(crate::specs::Reading::code_read))]
-fn read_code(draft: &mut Draft, line: &[u8]) -> Result<(), LineRefusal>
-    ensures { Steps result (state_of draft.new) (code_read (state_of draft.old) line.now) }
+#[tactic(auto, unfolding(crate::specs::Counting::code_counted))]
+fn read_code(draft: &mut Draft, line: &[u8]) -> Line
+    requires { HasBounds (seen_of draft.old) }
+    ensures steps { Steps result (seen_of draft.new) (code_counted (seen_of draft.old) line.now) }
+    ensures bounds { HasBounds (seen_of draft.new) }
 {
     if line != b"code".as_slice() {
         return Err(LineRefusal::Form);
     }
     draft.stage = Stage::Lower;
-    Ok(())
+    Ok(Some(Event::Code))
 }
 
 /// A line between the head and the code.
-#[tactic(auto, unfolding(crate::specs::Reading::upper_read))]
-fn read_upper(draft: &mut Draft, line: &[u8]) -> Result<(), LineRefusal>
-    ensures { Steps result (state_of draft.new) (upper_read (state_of draft.old) line.now) }
+#[tactic(auto, unfolding(crate::specs::Counting::upper_counted))]
+fn read_upper(draft: &mut Draft, line: &[u8]) -> Line
+    requires { HasBounds (seen_of draft.old) }
+    ensures steps { Steps result (seen_of draft.new) (upper_counted (seen_of draft.old) line.now) }
+    ensures bounds { HasBounds (seen_of draft.new) }
 {
     if let Some(words) = after(b"map ", line) {
         return read_map(draft, words);
@@ -263,10 +301,10 @@ fn read_upper(draft: &mut Draft, line: &[u8]) -> Result<(), LineRefusal>
 
 /// How many entries the trace has so far.
 fn trace_len(draft: &Draft) -> u32
-    requires { HasBounds (state_of draft.now).code }
-    ensures { result ≡ trace_len (state_of draft.now).code }
+    requires { HasBounds (seen_of draft.now) }
+    ensures { result ≡ entries (seen_of draft.now) }
 {
-    draft.secrets * (u32::from(draft.order) + 1) + draft.publics + draft.instrs.len() as u32
+    draft.secrets * (u32::from(draft.order) + 1) + draft.publics + draft.instrs
 }
 
 /// The greatest element of a field.
@@ -281,7 +319,7 @@ fn greatest(field: FieldId) -> u8
 
 /// Whether the instruction fits behind `len` entries in a code with so many maps.
 #[tactic(auto, unfolding(crate::specs::Reading::fits_at))]
-fn fits_at(field: FieldId, maps: usize, len: u32, instr: Instr) -> bool
+fn fits_at(field: FieldId, maps: u32, len: u32, instr: Instr) -> bool
     ensures { result ≡ fits_at field maps len instr }
 {
     match instr {
@@ -291,99 +329,107 @@ fn fits_at(field: FieldId, maps: usize, len: u32, instr: Instr) -> bool
         Instr::Add { left, right } => left < len && right < len,
         Instr::Mul { left, right } => left < len && right < len,
         Instr::Sq { from } => from < len,
-        Instr::Map { map, from } => (map as usize) < maps && from < len,
+        Instr::Map { map, from } => map < maps && from < len,
     }
 }
 
 /// Whether the instruction may stand here: before outputs.
-#[tactic(auto, unfolding(crate::specs::Reading::may_instr))]
+#[tactic(auto, unfolding(crate::specs::Counting::instr_counts))]
 fn may_instr(draft: &Draft, instr: Instr) -> bool
-    requires { HasBounds (state_of draft.now).code }
-    ensures { result ≡ may_instr (state_of draft.now) instr }
+    requires { HasBounds (seen_of draft.now) }
+    ensures counts { result ≡ instr_counts (seen_of draft.now) instr }
+    ensures few { IsTrue result → draft.now.instrs < MOST_INSTRS }
 {
-    draft.outs.len() < 1
-        && draft.instrs.len() < MOST_INSTRS as usize
-        && fits_at(draft.field, draft.maps.len(), trace_len(draft), instr)
+    draft.outs < 1
+        && draft.instrs < MOST_INSTRS
+        && fits_at(draft.field, draft.maps, trace_len(draft), instr)
 }
 
 /// The line of an instruction.
-#[tactic(auto, unfolding(crate::specs::Reading::instr_read))]
-fn read_instr(draft: &mut Draft, line: &[u8]) -> Result<(), LineRefusal>
-    requires { HasBounds (state_of draft.old).code }
-    ensures { Steps result (state_of draft.new) (instr_read (state_of draft.old) line.now) }
+#[tactic(auto, unfolding(crate::specs::Counting::instr_counted))]
+fn read_instr(draft: &mut Draft, line: &[u8]) -> Line
+    requires { HasBounds (seen_of draft.old) }
+    ensures steps { Steps result (seen_of draft.new) (instr_counted (seen_of draft.old) line.now) }
+    ensures bounds { HasBounds (seen_of draft.new) }
 {
     let instr = instr_of(line).ok_or(LineRefusal::Form)?;
     if !may_instr(draft, instr) {
         return Err(LineRefusal::Form);
     }
-    draft.instrs.push(instr)?;
-    Ok(())
+    draft.instrs += 1;
+    Ok(Some(Event::Instr(instr)))
 }
 
-/// Appends `count` places below `len`, a space before each and nothing behind them.
-fn push_places(
-    outs: &mut PositionList,
+/// So many positions below `len`, a space before each and nothing behind them.
+fn positions_of(
+    alloc: Global,
     count: u32,
     len: u32,
     words: &[u8],
-) -> Result<(), LineRefusal>
-    ensures { Appends result outs.old outs.new (places_of count len words.now) }
+) -> Result<PositionList, LineRefusal>
+    ensures { Gives result (positions_of count len words.now) }
 {
+    let mut positions = Items::new(alloc);
     let mut rest = words;
     for _ in 0..count {
         let Some(word) = after(b" ", rest) else {
             return Err(LineRefusal::Form);
         };
-        let Some((place, behind)) = number_at(word) else {
+        let Some((position, behind)) = number_at(word) else {
             return Err(LineRefusal::Form);
         };
-        if place >= len {
+        if position >= len {
             return Err(LineRefusal::Form);
         }
-        outs.push(place)?;
+        positions.push(position)?;
         rest = behind;
     }
     if !rest.is_empty() {
         return Err(LineRefusal::Form);
     }
-    Ok(())
+    Ok(positions)
 }
 
 /// The line of an output, behind its first word.
-#[tactic(auto, unfolding(crate::specs::Reading::out_read))]
-fn read_out(draft: &mut Draft, words: &[u8]) -> Result<(), LineRefusal>
-    requires { HasBounds (state_of draft.old).code }
-    ensures { Steps result (state_of draft.new) (out_read (state_of draft.old) words.now) }
+#[tactic(auto, unfolding(crate::specs::Counting::out_counted))]
+fn read_out(draft: &mut Draft, alloc: Global, words: &[u8]) -> Line
+    requires { HasBounds (seen_of draft.old) }
+    ensures steps { Steps result (seen_of draft.new) (out_counted (seen_of draft.old) words.now) }
+    ensures bounds { HasBounds (seen_of draft.new) }
 {
     let len = trace_len(draft);
     let shares = u32::from(draft.order) + 1;
-    if draft.outs.len() as u64 >= u64::from(MOST_INPUTS) * u64::from(shares) {
+    if draft.outs >= MOST_INPUTS * shares {
         return Err(LineRefusal::Form);
     }
-    push_places(&mut draft.outs, shares, len, words)
+    let positions = positions_of(alloc, shares, len, words)?;
+    draft.outs += shares;
+    Ok(Some(Event::Out(positions)))
 }
 
 /// A line of the code.
-#[tactic(auto, unfolding(crate::specs::Reading::lower_read))]
-fn read_lower(draft: &mut Draft, line: &[u8]) -> Result<(), LineRefusal>
-    requires { HasBounds (state_of draft.old).code }
-    ensures { Steps result (state_of draft.new) (lower_read (state_of draft.old) line.now) }
+#[tactic(auto, unfolding(crate::specs::Counting::lower_counted))]
+fn read_lower(draft: &mut Draft, alloc: Global, line: &[u8]) -> Line
+    requires { HasBounds (seen_of draft.old) }
+    ensures steps { Steps result (seen_of draft.new) (lower_counted (seen_of draft.old) line.now) }
+    ensures bounds { HasBounds (seen_of draft.new) }
 {
     if let Some(words) = after(b"out", line) {
-        return read_out(draft, words);
+        return read_out(draft, alloc, words);
     }
     if line == b"end".as_slice() {
         draft.stage = Stage::Ended;
-        return Ok(());
+        return Ok(Some(Event::End));
     }
     read_instr(draft, line)
 }
 
 /// One line more.
-#[tactic(auto, unfolding(crate::specs::Reading::read_at))]
-pub(crate) fn read_line(draft: &mut Draft, line: &[u8]) -> Result<(), LineRefusal>
-    requires { HasBounds (state_of draft.old).code }
-    ensures { Steps result (state_of draft.new) (line_read (state_of draft.old) line.now) }
+#[tactic(auto, unfolding(crate::specs::Counting::counted_at))]
+pub(crate) fn read_line(draft: &mut Draft, alloc: Global, line: &[u8]) -> Line
+    requires { HasBounds (seen_of draft.old) }
+    ensures steps { Steps result (seen_of draft.new) (line_counted (seen_of draft.old) line.now) }
+    ensures bounds { HasBounds (seen_of draft.new) }
 {
     match draft.stage {
         Stage::Version => read_version(draft, line),
@@ -392,8 +438,20 @@ pub(crate) fn read_line(draft: &mut Draft, line: &[u8]) -> Result<(), LineRefusa
         Stage::Secrets => read_secrets(draft, line),
         Stage::Publics => read_publics(draft, line),
         Stage::Upper => read_upper(draft, line),
-        Stage::Lower => read_lower(draft, line),
+        Stage::Lower => read_lower(draft, alloc, line),
         Stage::Ended => Err(LineRefusal::Form),
+    }
+}
+
+/// Whether the lines of the maps ended.
+#[tactic(auto, unfolding(crate::specs::Events::has_begun))]
+pub(crate) fn has_begun(draft: &Draft) -> bool
+    ensures { result ≡ has_begun draft.now.stage draft.now.blocks draft.now.claims }
+{
+    match draft.stage {
+        Stage::Version | Stage::Field | Stage::Order | Stage::Secrets | Stage::Publics => false,
+        Stage::Upper => !(draft.blocks < 1 && draft.claims < 1),
+        Stage::Lower | Stage::Ended => true,
     }
 }
 
@@ -404,23 +462,17 @@ pub(crate) fn is_ended(draft: &Draft) -> bool
     matches!(draft.stage, Stage::Ended)
 }
 
-/// The bundle of a draft.
-pub(crate) fn bundle_of(draft: Draft) -> Bundle
-    requires { IsListing (state_of draft).code }
-    ensures code { result.code ≡ (state_of draft).code }
-    ensures cert { result.cert ≡ (state_of draft).cert }
+/// The head, with the maps of which no event told yet. They are told now.
+pub(crate) fn told_head(draft: &mut Draft, alloc: Global) -> Head
+    ensures head { result ≡ record { field = draft.old.field; order = draft.old.order; secrets = draft.old.secrets; publics = draft.old.publics; maps = draft.old.untold } }
+    ensures told { seen_of draft.new ≡ record (seen_of draft.old) { untold = [] } }
 {
-    let Draft {
-        stage: _,
-        field,
-        order,
-        secrets,
-        publics,
+    let maps = mem::replace(&mut draft.untold, Items::new(alloc));
+    Head {
+        field: draft.field,
+        order: draft.order,
+        secrets: draft.secrets,
+        publics: draft.publics,
         maps,
-        instrs,
-        outs,
-        cert,
-    } = draft;
-    let code = Code::new(field, order, secrets, publics, maps, instrs, outs);
-    Bundle { code, cert }
+    }
 }

@@ -11,22 +11,34 @@
 //!   `block sq V`, `block map M V`, `block mul V V` or `block refresh V`;
 //! - `claim V` for each claim, and then `code`;
 //! - for each instruction `rnd`, `const C`, `copy P`, `add P P`, `mul P P`, `sq P` or `map M P`;
-//! - `out` and the places of its shares for each output, and then `end`.
+//! - `out` and the positions of its shares for each output, and then `end`.
 //!
 //! A text has at most 131,072 blocks and 65,536 claims; a code keeps the limits on its own lines.
-//! Places and maps in the lines of a code are those that there are, and elements are of its field. In
+//! Positions and maps in the lines of a code are those that there are, and elements are of its field. In
 //! the lines of blocks numbers are any of 32 bits.
 //!
 //! Reading names the first line where no bundle text goes on. A text is cut into lines that end with a
 //! line feed; what stands behind the last one is a further line, which lacks it.
 #![tactic(auto)]
 
+mod collect;
 mod draft;
+mod event;
+mod input;
 mod read;
+mod reader;
+mod refusal;
+mod step;
 mod text;
+mod write;
 
 /// The most bytes of a text that is read.
 pub const MOST_BYTES: u32 = 268_435_456;
 
+pub use collect::collect_bundle;
+pub use event::{Event, Head};
 pub use read::{BundleRefusal, read_bundle, texts_differ};
+pub use reader::BundleReader;
+pub use refusal::StreamRefusal;
 pub use text::to_text;
+pub use write::write_bundle;

@@ -4,8 +4,10 @@ ghost use Rattle.mk_bundle.specs.declared.read.BundleRefusal.TheVariants.{Form};
 ghost use Rattle.mk_lines.specs.Lines.{NamesFirst};
 ghost use Rattle.mk_bundle.specs.Pairs.{IsTextOf, IsBundleText, TextsDiffer};
 
-use crate::draft::{LineRefusal, bundle_of, empty_draft, is_ended, read_line};
-use mk_lines::cut;
+use crate::MOST_BYTES;
+use crate::collect::collect_bundle;
+use crate::refusal::StreamRefusal;
+use mk_base::SureSource;
 use mk_rules::Bundle;
 use std::alloc::Global;
 use thiserror::Error;
@@ -34,25 +36,12 @@ pub fn read_bundle(alloc: Global, text: &[u8]) -> Result<Bundle, BundleRefusal>
     // The line is the first behind which no bundle text goes on.
     ensures form { (line : ℕ) → result ≡ Err (Form line) → NamesFirst IsBundleText line text.now }
 {
-    let mut draft = empty_draft(alloc);
-    let mut rest = text;
-    let mut number: u32 = 1;
-    while let Some((line, behind)) = cut(rest) {
-        match read_line(&mut draft, line) {
-            Ok(()) => {}
-            Err(LineRefusal::Form) => return Err(BundleRefusal::Form { line: number }),
-            Err(LineRefusal::Memory) => return Err(BundleRefusal::Memory),
-        }
-        rest = behind;
-        number += 1;
+    let mut source = SureSource::new(text);
+    match collect_bundle(alloc, &mut source, MOST_BYTES) {
+        Ok(bundle) => Ok(bundle),
+        Err(StreamRefusal::Form { line }) => Err(BundleRefusal::Form { line }),
+        Err(_) => Err(BundleRefusal::Memory),
     }
-    if !rest.is_empty() {
-        return Err(BundleRefusal::Form { line: number });
-    }
-    if !is_ended(&draft) {
-        return Err(BundleRefusal::Form { line: number });
-    }
-    Ok(bundle_of(draft))
 }
 
 /// The law of texts: different pairs have different texts, and none is a proper front of another. It

@@ -20,7 +20,7 @@ use Rattle.mk_gadget.proofs.Pairs.{twice-pairs}
 use Rattle.mk_gadget.proofs.RefreshRun.{length-refresh}
 use Rattle.mk_gadget.proofs.ProductRows.{length-product}
 
--- each place stays where it is
+-- each position stays where it is
 placement-same : (base p : ℕ) → placement (range_with_len 0 base) base p ≡ p
 placement-same base p =
     let long : length (range_with_len 0 base) ≡ base = length-range_with_len 0 base in
@@ -117,9 +117,9 @@ module _ (old new : Draft) (n base : ℕ) (reads bank : List ℕ) (gadget : Gadg
       ∙ map-same (placement (range_with_len 0 base) base) gadget.outs (placement-same base)
 
   -- and it is whole
-  pub alone-whole : 2 ≤ n → n ≤ 9 → AllBelow (base + length gadget.instrs) gadget.outs → length gadget.outs ≡ n → (places : List ℕ) → places ≡ bank
-      → IsWholeWith new places
-  alone-whole least most within count places same =
+  pub alone-whole : 2 ≤ n → n ≤ 9 → AllBelow (base + length gadget.instrs) gadget.outs → length gadget.outs ≡ n → (positions : List ℕ) → positions ≡ bank
+      → IsWholeWith new positions
+  alone-whole least most within count positions same =
       let order : new.order ≡ old.order = ap (λ (d : Draft). d.order) emitted.code in
       let secrets : new.secrets ≡ old.secrets = ap (λ (d : Draft). d.secrets) emitted.code in
       let publics : new.publics ≡ old.publics = ap (λ (d : Draft). d.publics) emitted.code in
@@ -130,7 +130,7 @@ module _ (old new : Draft) (n base : ℕ) (reads bank : List ℕ) (gadget : Gadg
       let inputs : inputs_len new.order new.secrets new.publics ≡ inputs_len old.order old.secrets old.publics =
       ap (λ (d : Draft). inputs_len d.order d.secrets d.publics) emitted.code in
       let len : base + length gadget.instrs ≡ draft_len new = omega (arith, start, fresh.len, inputs, ap length alone-instrs) in
-      let outs : places ≡ gadget.outs = same ∙ alone-outs in
+      let outs : positions ≡ gadget.outs = same ∙ alone-outs in
       record {
         order = (omega (arith, order, fresh.order, least), omega (arith, order, fresh.order, most));
         outs = subst (λ (ps : List ℕ). All (λ p. p < draft_len new) ps) (sym outs) (subst (λ (q : ℕ). All (λ p. p < q) gadget.outs) len all);

@@ -8,7 +8,7 @@ use Rattle.mk_ssa.specs.declared.Operand.{Operand}
 use Rattle.mk_rules.specs.Shape.{shape_of}
 use Rattle.mk_rules.specs.Tiles.{value_number}
 use Rattle.mk_rules.specs.Wired.{IsSharedThere}
-use Rattle.mk_rules.specs.Faults.{output_places, IsClaimed}
+use Rattle.mk_rules.specs.Faults.{output_positions, IsClaimed}
 
 -- an output that is there is whole
 pub output-whole : (code : Listing) (k n len : ℕ) → IsListing code → n ≡ code.order + 1 → len ≡ length code.outs → k * (code.order + 1) < length code.outs
@@ -25,7 +25,7 @@ output-whole code k n len fits shares same there =
 module _ (code : Listing) (banks : List (List ℕ)) (blocks : List Op) (claims : List Operand) (k : ℕ) where
   -- the claim is of a value that is there, whose bank is the output
   abbrev IsOutput : Operand → Type 0
-  IsOutput v = IsSharedThere (shape_of code) blocks v × (slice_index_or banks (value_number (shape_of code) v) [] ≡ output_places code k)
+  IsOutput v = IsSharedThere (shape_of code) blocks v × (slice_index_or banks (value_number (shape_of code) v) [] ≡ output_positions code k)
 
   -- without a claim there is none
   pub IsClaimed-none : slice_get claims k ≡ None → IsClaimed code banks blocks claims k → ⊥

@@ -6,10 +6,10 @@ use Rattle.std.proofs.lemmas.Bool.{ltb-true, ltb-false}
 use Rattle.mk_rules.specs.Faults.{FirstMismatch}
 
 -- one equal element more
-pub take-same-more : {X : Type 0} (xs ys : List X) (place : ℕ) (d y : X) → place < length xs → take place xs ≡ take place ys
-    → slice_get ys place ≡ Some y → get_or xs place d ≡ y → take (place + 1) xs ≡ take (place + 1) ys
-take-same-more xs ys place d y below same there equal =
-    take_more_same xs ys place d below (slice_get_within ys place y there) same (equal ∙ sym (get_or_from_slice_get ys place y d there))
+pub take-same-more : {X : Type 0} (xs ys : List X) (position : ℕ) (d y : X) → position < length xs → take position xs ≡ take position ys
+    → slice_get ys position ≡ Some y → get_or xs position d ≡ y → take (position + 1) xs ≡ take (position + 1) ys
+take-same-more xs ys position d y below same there equal =
+    take_more_same xs ys position d below (slice_get_within ys position y there) same (equal ∙ sym (get_or_from_slice_get ys position y d there))
 
 -- nothing is there only behind the end
 pub slice_get_none-past : {X : Type 0} (xs : List X) (k : ℕ) → slice_get xs k ≡ None → length xs ≤ k
@@ -28,23 +28,23 @@ none-at xs zs k same behind =
     ap (λ (l : List _). slice_get l k) (sym same) ∙ slice_get_past zs k (ltb-false k (length zs) (sym behind))
 
 -- two lists that agree, and one equal element more
-pub agree-more : {X : Type 0} (xs ys : List X) (place : ℕ) (found wanted : X) → take place xs ≡ take place ys → slice_get xs place ≡ Some found
-    → slice_get ys place ≡ Some wanted → found ≡ wanted → take (place + 1) xs ≡ take (place + 1) ys
-agree-more xs ys place found wanted same here there equal =
-    take-same-more xs ys place found wanted (slice_get_within xs place found here) same there (get_or_from_slice_get xs place found found here ∙ equal)
+pub agree-more : {X : Type 0} (xs ys : List X) (position : ℕ) (found wanted : X) → take position xs ≡ take position ys → slice_get xs position ≡ Some found
+    → slice_get ys position ≡ Some wanted → found ≡ wanted → take (position + 1) xs ≡ take (position + 1) ys
+agree-more xs ys position found wanted same here there equal =
+    take-same-more xs ys position found wanted (slice_get_within xs position found here) same there (get_or_from_slice_get xs position found found here ∙ equal)
 
 -- another element there
-pub other-at : {X : Type 0} (xs ys : List X) (place : ℕ) (found wanted : X) → take place xs ≡ take place ys → slice_get xs place ≡ Some found
-    → slice_get ys place ≡ Some wanted → (found ≡ wanted → ⊥) → FirstMismatch xs ys place
-other-at xs ys place found wanted same here there other = record {
+pub other-at : {X : Type 0} (xs ys : List X) (position : ℕ) (found wanted : X) → take position xs ≡ take position ys → slice_get xs position ≡ Some found
+    → slice_get ys position ≡ Some wanted → (found ≡ wanted → ⊥) → FirstMismatch xs ys position
+other-at xs ys position found wanted same here there other = record {
   before = same;
   differ = λ e. other (same_Some found wanted (sym here ∙ e ∙ there));
 }
 
 -- none there
-pub ended-at : {X : Type 0} (xs ys : List X) (place : ℕ) (wanted : X) → take place xs ≡ take place ys → slice_get xs place ≡ None
-    → slice_get ys place ≡ Some wanted → FirstMismatch xs ys place
-ended-at xs ys place wanted same here there = record {
+pub ended-at : {X : Type 0} (xs ys : List X) (position : ℕ) (wanted : X) → take position xs ≡ take position ys → slice_get xs position ≡ None
+    → slice_get ys position ≡ Some wanted → FirstMismatch xs ys position
+ended-at xs ys position wanted same here there = record {
   before = same;
   differ = λ e. none-some wanted (sym here ∙ e ∙ there);
 }
@@ -55,9 +55,9 @@ take-next xs k x there =
     take_more xs k x (slice_get_within xs k x there) ∙ ap (λ (y : _). take k xs ++ y ∷ []) (get_or_from_slice_get xs k x x there)
 
 -- a list that goes on where the other one has ended
-pub goes_on-at : {X : Type 0} (xs ys : List X) (place : ℕ) → take place xs ≡ take place ys → place < length xs → length ys ≤ place → FirstMismatch xs ys place
-goes_on-at [] ys place same within ended = absurd (omega (arith, within))
-goes_on-at (x ∷ xs) ys place same within ended = record {
+pub goes_on-at : {X : Type 0} (xs ys : List X) (position : ℕ) → take position xs ≡ take position ys → position < length xs → length ys ≤ position → FirstMismatch xs ys position
+goes_on-at [] ys position same within ended = absurd (omega (arith, within))
+goes_on-at (x ∷ xs) ys position same within ended = record {
   before = same;
-  differ = λ e. none-some (get_or (x ∷ xs) place x) (sym (slice_get_past ys place ended) ∙ sym e ∙ slice_get-get_or (x ∷ xs) place x within);
+  differ = λ e. none-some (get_or (x ∷ xs) position x) (sym (slice_get_past ys position ended) ∙ sym e ∙ slice_get-get_or (x ∷ xs) position x within);
 }

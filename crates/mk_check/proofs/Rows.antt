@@ -32,7 +32,7 @@ pub lift-at : (n k : ℕ) → (k ≡ 0 → ⊥) → k < length (lift n).instrs �
 lift-at n zero other below = absurd (other refl)
 lift-at n (suc k) other below = replicate-at (n - 1) k (instr.Const 0) (omega (arith, below))
 
--- how many instructions and places a linear operator's template has
+-- how many instructions and positions a linear operator's template has
 pub linear-long : (n : ℕ) (op : Op) → 1 ≤ n → is_public op ≡ false → kind op ≢ Strong
     → (n ≡ length (built_in n op).instrs) × (n ≡ length (built_in n op).outs)
 linear-long n (Lift arg) some shared weak = (omega (arith, some, length-replicate {A = Instr} (n - 1) (instr.Const 0)), sym (length-range_with_len 1 n))
@@ -51,16 +51,16 @@ range-at p n k below =
     slice_get-get_or (range_with_len p n) k 0 below
     ∙ ap (λ (i : ℕ). Some i) (get_or-range_with_len p n k 0 (omega (arith, below, length-range_with_len p n)))
 
--- the same, with its first place written in another way
+-- the same, with its first position written in another way
 moved-to : (p q n k : ℕ) → p ≡ q → k < length (range_with_len p n) → slice_get (range_with_len p n) k ≡ Some (q + k)
 moved-to p q n k same below = range-at p n k below ∙ ap (λ (i : ℕ). Some (i + k)) same
 
--- how many places the operands of an operator have
-abbrev pub places_before : ℕ → Op → ℕ
-places_before n op = n * length (shared_operands op) + length (public_operands op)
+-- how many positions the operands of an operator have
+abbrev pub positions_before : ℕ → Op → ℕ
+positions_before n op = n * length (shared_operands op) + length (public_operands op)
 
--- a place of the out bank of a public or linear operator
-pub out-at : (n k : ℕ) (op : Op) → kind op ≢ Strong → k < length (built_in n op).outs → slice_get (built_in n op).outs k ≡ Some (places_before n op + k)
+-- a position of the out bank of a public or linear operator
+pub out-at : (n k : ℕ) (op : Op) → kind op ≢ Strong → k < length (built_in n op).outs → slice_get (built_in n op).outs k ≡ Some (positions_before n op + k)
 out-at n k (Const value) weak below = moved-to 0 (n * 0 + 0) 1 k (omega arith) below
 out-at n k (PubAdd left right) weak below = moved-to 2 (n * 0 + 2) 1 k (omega arith) below
 out-at n k (PubMul left right) weak below = moved-to 2 (n * 0 + 2) 1 k (omega arith) below

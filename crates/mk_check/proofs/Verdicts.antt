@@ -12,7 +12,7 @@ use Rattle.mk_rules.specs.Claimed.{Claimed}
 use Rattle.mk_rules.specs.Accepts.{IsAccepted, Outputs, Accepts}
 use Rattle.mk_rules.specs.Privacy.{HaveTemplates}
 use Rattle.mk_rules.specs.Reaches.{Undoubled, links}
-use Rattle.mk_rules.specs.Tiles.{Tiles, laid, input_banks, first_place, banks_of}
+use Rattle.mk_rules.specs.Tiles.{Tiles, laid, input_banks, first_position, banks_of}
 use Rattle.mk_rules.specs.Wired.{Wired}
 use Rattle.mk_rules.specs.Faults.{FirstDoubled}
 use Rattle.mk_rules.proofs.Operators.{IsGiven}
@@ -56,7 +56,7 @@ refused-built_in code gadgets cert r is = subst (λ (g : Gadgets). IfErr r (λ e
 module _ (code : Listing) (product refresh : Gadget) (cert : Claimed) (given : (op : Op) → IsGiven (shape_of code) product refresh op) where
   -- no tile is off where the tiles hold
   off-not : (k : ℕ) → Refuses code product refresh cert (Tile k) → Tiles code product refresh cert.blocks → ⊥
-  off-not k refused tiles = FirstMismatch-not code.instrs (laid (shape_of code) product refresh (input_banks (shape_of code)) (first_place (shape_of code)) cert.blocks) k refused.1 tiles
+  off-not k refused tiles = FirstMismatch-not code.instrs (laid (shape_of code) product refresh (input_banks (shape_of code)) (first_position (shape_of code)) cert.blocks) k refused.1 tiles
 
   -- no output is wrong where they hold
   output-not : (k : ℕ) → Refuses code product refresh cert (Output k) → Outputs code product refresh cert.blocks cert.claims → ⊥
@@ -78,7 +78,7 @@ module _ (code : Listing) (product refresh : Gadget) (cert : Claimed) (given : (
   refuses-once (Operand j) (Output k) first second = absurd (FirstUnwired-not (shape_of code) cert.blocks j first second.0)
   refuses-once (Operand j) (Doubled v k) first second = absurd (FirstUnwired-not (shape_of code) cert.blocks j first second.0)
   refuses-once (Tile j) (Operand k) first second = absurd (FirstUnwired-not (shape_of code) cert.blocks k second first.0)
-  refuses-once (Tile j) (Tile k) first second = ap (λ (i : ℕ). Tile i) (FirstMismatch-only code.instrs (laid (shape_of code) product refresh (input_banks (shape_of code)) (first_place (shape_of code)) cert.blocks) j k first.1 second.1)
+  refuses-once (Tile j) (Tile k) first second = ap (λ (i : ℕ). Tile i) (FirstMismatch-only code.instrs (laid (shape_of code) product refresh (input_banks (shape_of code)) (first_position (shape_of code)) cert.blocks) j k first.1 second.1)
   refuses-once (Tile j) (Output k) first second = absurd (off-not j first second.1)
   refuses-once (Tile j) (Doubled v k) first second = absurd (off-not j first second.1)
   refuses-once (Output j) (Operand k) first second = absurd (FirstUnwired-not (shape_of code) cert.blocks k second first.0)

@@ -17,9 +17,9 @@ pub record Gadgets : Type 0 where
 abbrev pub template_of : Gadgets → Op → Gadget
 template_of gadgets op = template gadgets.shares gadgets.product gadgets.refresh op
 
--- more than the places of a code within the limits, and than those of a gadget before its own instructions
-abbrev pub far : ℕ
-far = 2 * MOST_INSTRS
+-- more than the positions of a code within the limits, and than those of a gadget before its own instructions
+abbrev pub past_all_positions : ℕ
+past_all_positions = 2 * MOST_INSTRS
 
 -- the product and the refresh that emitters append, with n shares
 abbrev pub built_in_gadgets : ℕ → Gadgets

@@ -4,7 +4,7 @@ use Rattle.mk_code.specs.declared.instr.Instr.{Instr}
 use Rattle.mk_code.specs.Listing.{Listing}
 use Rattle.mk_ssa.specs.declared.Op.{Op}
 use Rattle.mk_rules.specs.Shape.{Shape, shape_of}
-use Rattle.mk_rules.specs.Tiles.{laid, input_banks, first_place, banks_of}
+use Rattle.mk_rules.specs.Tiles.{laid, input_banks, first_position, banks_of}
 use Rattle.mk_rules.specs.Faults.{FirstOffTile}
 use Rattle.mk_check.specs.Gadgets.{Gadgets}
 use Rattle.mk_check.specs.declared.refusal.CheckRefusal.{CheckRefusal}
@@ -12,7 +12,7 @@ use Rattle.mk_check.specs.declared.refusal.CheckRefusal.TheVariants.{Operand, Ti
 
 -- the instructions of the blocks, one after the other
 abbrev pub all_laid : Shape → Gadgets → List Op → List Instr
-all_laid shape gadgets blocks = laid shape gadgets.product gadgets.refresh (input_banks shape) (first_place shape) blocks
+all_laid shape gadgets blocks = laid shape gadgets.product gadgets.refresh (input_banks shape) (first_position shape) blocks
 
 -- the banks of the inputs and of the blocks
 abbrev pub all_banks : Shape → Gadgets → List Op → List (List ℕ)
@@ -20,7 +20,7 @@ all_banks shape gadgets blocks = banks_of shape gadgets.product gadgets.refresh 
 
 -- the code's instructions are those of the blocks, as far as this number of them
 abbrev pub AgreesTo : Listing → Gadgets → List Op → ℕ → Type 0
-AgreesTo code gadgets blocks place = take place code.instrs ≡ take place (all_laid (shape_of code) gadgets blocks)
+AgreesTo code gadgets blocks position = take position code.instrs ≡ take position (all_laid (shape_of code) gadgets blocks)
 
 -- it names the first instruction that isn't that of the blocks
 abbrev pub IsOffTile : Listing → Gadgets → List Op → CheckRefusal → Type 0

@@ -1,186 +1,195 @@
-//! Whether a value reaches both places of a product, by a search back from each operand that goes only
-//! where a value reaches it: first from the later operand, and then from the other one no further back than
-//! that search went.
+//! Whether a value reaches both places of a product, for 32 products at a time: one pass from the last block of
+//! these to the first block, with a word of marks for each value.
 
-ghost use Rattle.std.specs.Prelude.{◌≡◌, ◌⊎◌, ◌+◌, ◌<◌, ◌≤◌, ◌^◌, ◌↔◌, ◌++◌, ◌∷◌, [], List, ℕ, All, Contains, IsTrue, IsSomeAnd, IfOk, IfErr, IfSome, OnOk, length, map, slice_get, Some, option_to_list};
+ghost use Rattle.std.specs.Prelude.{◌≡◌, ◌⊎◌, ◌+◌, ◌*◌, ◌<◌, ◌≤◌, ◌^◌, ◌↔◌, List, ℕ, IsTrue, IsSomeAnd, IfErr, IfOk, IfSome, IfNone, OnOk, length, slice_get, slice_index, Some};
 ghost use Rattle.mk_ssa.specs.declared.Op.{Op};
 ghost use Rattle.mk_ssa.specs.declared.Operand.{Operand};
-ghost use Rattle.mk_ssa.specs.Kinds.{Strong};
 ghost use Rattle.mk_rules.specs.Shape.{shape_of};
 ghost use Rattle.mk_rules.specs.Tiles.{value_number as number_by_operand};
+ghost use Rattle.mk_rules.specs.Products.{products_before};
+ghost use Rattle.mk_rules.specs.Uses.{shared_numbers as numbers_by_place};
 ghost use Rattle.mk_rules.specs.Wired.{Wired, IsSharedThere};
-ghost use Rattle.mk_rules.specs.Reaches.{Reaches, Undoubled, links};
-ghost use Rattle.mk_check.specs.Passing.{linear_operands as operands_by_kind, Leads, IsFinding, IsAdded, IsDoubling};
+ghost use Rattle.mk_rules.specs.Reaches.{Undoubled, links};
+ghost use Rattle.mk_rules.specs.Faults.{FirstDoubled};
+ghost use Rattle.mk_check.specs.Passing.{IsBatch, IsNumbered, HasBoth, AreMarks, IsBrought, IsPassedOn, IsDoubling};
 
 use crate::refusal::CheckRefusal;
-use crate::tiles::number_of;
 use mk_base::Memory;
 use mk_code::Code;
+use mk_rules::{first_pair, is_product, shared_numbers};
 use mk_ssa::{Op, Operand};
 use std::alloc::Global;
 
-/// The shared operands of a linear block, and none of any other.
-fn linear_operands(op: &Op) -> (Option<Operand>, Option<Operand>)
-    ensures { option_to_list result.0 ++ option_to_list result.1 ≡ operands_by_kind op.now }
+/// How many products one pass serves: a word has a bit for each of their places.
+const BATCH: usize = 32;
+
+/// Products that one pass serves: those of the blocks from `from` on and before `end`, so many.
+#[derive(Clone, Copy, Debug)]
+struct Batch {
+    from: usize,
+    end: usize,
+    products: usize,
+}
+
+/// A product by its number among those of a batch, and a value by its number, which reaches both its places.
+#[derive(Clone, Copy, Debug)]
+struct Clash {
+    product: usize,
+    value: usize,
+}
+
+/// The next products, from block `from` on.
+fn next_batch(blocks: &[Op], from: usize) -> Batch
+    requires { from < length blocks.now }
+    ensures { IsBatch blocks.now from result }
+{
+    let mut end = from;
+    let mut products = 0;
+    while end < blocks.len() && products < BATCH {
+        if is_product(blocks[end]) {
+            products += 1;
+        }
+        end += 1;
+    }
+    Batch {
+        from,
+        end,
+        products,
+    }
+}
+
+/// Sets these bits in the word of the value with this number, if there is one.
+fn bring(marks: &mut [u64], number: Option<usize>, word: u64)
+    requires { IfSome number (λ v. v < length marks.old) }
+    ensures count { length marks.new ≡ length marks.old }
+    ensures marks { IsBrought number word marks.old marks.new }
+{
+    if let Some(number) = number {
+        marks[number] |= word;
+    }
+}
+
+/// Passes marks on to the operands of the block with this number: of a linear block those of its value, and of a
+/// product with a number in the batch those of its places.
+fn pass_on(code: &Code, marks: &mut [u64], block: usize, op: Op, product: Option<usize>)
+    requires first { IfSome (slice_get (numbers_by_place (shape_of code.now) op) 0)
+        (λ v. v < length marks.old) }
+    requires second { IfSome (slice_get (numbers_by_place (shape_of code.now) op) 1)
+        (λ v. v < length marks.old) }
+    requires there { code.now.secrets + code.now.publics + block < length marks.old }
+    requires few { IfSome product (λ r. r < 32) }
+    ensures count { length marks.new ≡ length marks.old }
+    ensures marks { IsPassedOn (shape_of code.now) op
+        (slice_index marks.old (code.now.secrets + code.now.publics + block)) product marks.old marks.new }
 {
     match op {
-        Op::Mul { .. } | Op::Refresh { .. } => (None, None),
-        _ => op.shared_operands(),
+        Op::Mul { .. } => {
+            if let Some(product) = product {
+                let (first, second) = shared_numbers(code.secrets(), code.publics(), op);
+                bring(marks, first, 1 << (2 * product));
+                bring(marks, second, 1 << (2 * product + 1));
+            }
+        }
+        Op::Refresh { .. } => {}
+        _ => {
+            let own = marks[code.secrets() as usize + code.publics() as usize + block];
+            if own != 0 {
+                let (first, second) = shared_numbers(code.secrets(), code.publics(), op);
+                bring(marks, first, own);
+                bring(marks, second, own);
+            }
+        }
     }
 }
 
-/// The operands that lead to the value with this number, if it is that of a linear block.
-fn leading_to(code: &Code, blocks: &[Op], number: usize) -> (Option<Operand>, Option<Operand>)
-    requires { number < code.now.secrets + code.now.publics + length blocks.now }
-    ensures { (v : ℕ) → Contains (map (number_by_operand (shape_of code.now)) (option_to_list result.0
-        ++ option_to_list result.1)) v ↔ Leads (shape_of code.now) blocks.now v number }
+/// Takes all marks away.
+fn clear(marks: &mut [u64])
+    ensures count { length marks.new ≡ length marks.old }
+    ensures none { (v : ℕ) → slice_index marks.new v ≡ 0 }
 {
-    let inputs = code.secrets() as usize + code.publics() as usize;
-    if number < inputs {
-        (None, None)
+    for number in 0..marks.len() {
+        marks[number] = 0;
+    }
+}
+
+/// The number of a block in the batch, if it is one of its products. Up to the block's end stand so many of them.
+fn product_number(blocks: &[Op], batch: Batch, block: usize, products: usize) -> Option<usize>
+    requires batch { IsBatch blocks.now batch.from batch }
+    requires there { block < batch.end }
+    requires count { batch.from ≤ block
+        → products_before blocks.now (block + 1) ≡ products_before blocks.now batch.from + products }
+    ensures { (r : ℕ) → (result ≡ Some r) ↔ IsNumbered blocks.now batch r block }
+{
+    if block >= batch.from && is_product(blocks[block]) {
+        Some(products - 1)
     } else {
-        linear_operands(&blocks[number - inputs])
+        None
     }
 }
 
-/// A search for the values that reach one of the places of a product, for one product after another. The
-/// stamp of a product is its block's number and one more.
-#[derive(Drop)]
-struct Search {
-    /// For each value, by its number, the stamp of the last product at which it was found, or 0.
-    stamps: Vec<u32>,
-    /// The numbers of the values found at the present product.
-    found: Vec<usize>,
-}
-
-impl Search {
-    /// A search among so many values, which found none yet.
-    fn new(alloc: Global, count: usize) -> Result<Search, Memory>
-        ensures count { IfOk result (λ search. length search.stamps.items ≡ count) }
-        ensures stamps { IfOk result (λ search. All (λ s. s ≤ 0) search.stamps.items) }
-    {
-        Ok(Search {
-            stamps: vec![in alloc; 0; count]?,
-            found: Vec::new(alloc),
-        })
-    }
-
-    /// Whether the value with this number was found at the product with this stamp.
-    fn has(&self, stamp: u32, number: usize) -> bool
-        requires { number < length self.now.stamps.items }
-        ensures { IsTrue result ↔ (slice_get self.now.stamps.items number ≡ Some stamp) }
-    {
-        self.stamps[number] == stamp
-    }
-
-    /// Adds the value with this number to those found, if the number is at least `least` and it isn't among
-    /// them.
-    fn add_number(&mut self, stamp: u32, least: usize, number: usize) -> Result<(), Memory>
-        requires there { number < length self.old.stamps.items }
-        requires finding { IsFinding stamp self.old }
-        ensures { OnOk result (IsAdded stamp least (number ∷ []) self.old self.new) }
-    {
-        if number >= least && !self.has(stamp, number) {
-            self.stamps[number] = stamp;
-            self.found.push(number)?;
-        }
-        Ok(())
-    }
-
-    /// Adds a value to those found, if there is one, its number is at least `least` and it isn't among them.
-    fn add(
-        &mut self,
-        code: &Code,
-        stamp: u32,
-        least: usize,
-        value: Option<Operand>,
-    ) -> Result<(), Memory>
-        requires there { IfSome value (λ v. number_by_operand (shape_of code.now) v < length self.old.stamps.items) }
-        requires finding { IsFinding stamp self.old }
-        ensures { OnOk result (IsAdded stamp least (map (number_by_operand (shape_of code.now))
-            (option_to_list value)) self.old self.new) }
-    {
-        if let Some(value) = value {
-            self.add_number(stamp, least, number_of(code, value))?;
-        }
-        Ok(())
-    }
-
-    /// Finds the values with numbers from `least` on that reach a place of block `block` at which this operand
-    /// stands. The operands of a block have lesser numbers than its own, so it goes back from those alone.
-    fn run(
-        &mut self,
-        code: &Code,
-        blocks: &[Op],
-        block: usize,
-        value: Operand,
-        least: usize,
-    ) -> Result<(), Memory>
-        requires wired { Wired (shape_of code.now) blocks.now }
-        requires small { length blocks.now < 2 ^ 32 }
-        requires there { block < length blocks.now }
-        requires value { number_by_operand (shape_of code.now) value < code.now.secrets + code.now.publics + block }
-        requires count { length self.old.stamps.items ≡ code.now.secrets + code.now.publics + length blocks.now }
-        requires stamps { All (λ s. s ≤ block) self.old.stamps.items }
-        ensures count { OnOk result (length self.new.stamps.items ≡ length self.old.stamps.items) }
-        ensures finding { OnOk result (IsFinding (block + 1) self.new) }
-        ensures found { OnOk result ((place : ℕ)
-            → IsSomeAnd (slice_get (links (shape_of code.now) blocks.now) block)
-            (λ link. (link.kind ≡ Strong)
-            × (slice_get link.shared place ≡ Some (number_by_operand (shape_of code.now) value)))
-            → (v : ℕ) → Contains self.new.found.items v
-            ↔ ((least ≤ v)
-            × Reaches (code.now.secrets + code.now.publics) (links (shape_of code.now) blocks.now) v block place)) }
-    {
-        let stamp = block as u32 + 1;
-        self.found.clear();
-        self.add(code, stamp, least, Some(value))?;
-        let mut next = 0;
-        while next < self.found.len() {
-            let (first, second) = leading_to(code, blocks, self.found[next]);
-            self.add(code, stamp, least, first)?;
-            self.add(code, stamp, least, second)?;
-            next += 1;
-        }
-        Ok(())
-    }
-
-    /// The least number found, or 0 if none was.
-    fn first_number(&self) -> usize
-        ensures below { All (λ v. result ≤ v) self.now.found.items }
-        ensures found { (self.now.found.items ≡ []) ⊎ Contains self.now.found.items result }
-    {
-        self.found.iter().copied().min().unwrap_or(0)
+/// Marks in the word of each value the places of the batch's products that it reaches.
+fn mark_all(code: &Code, blocks: &[Op], batch: Batch, marks: &mut [u64])
+    requires wired { Wired (shape_of code.now) blocks.now }
+    requires batch { IsBatch blocks.now batch.from batch }
+    requires count { length marks.old ≡ code.now.secrets + code.now.publics + length blocks.now }
+    ensures { AreMarks (shape_of code.now) blocks.now batch 0 marks.new }
+{
+    clear(marks);
+    let mut products = batch.products;
+    let mut block = batch.end;
+    while block > 0 {
+        block -= 1;
+        let product = product_number(blocks, batch, block, products);
+        pass_on(code, marks, block, blocks[block], product);
+        products = product.unwrap_or(products);
     }
 }
 
-/// Whether the number comes before the first one so far, if there is one.
-fn is_before(number: usize, first: Option<usize>) -> bool
-    ensures { IsTrue result ↔ IfSome first (λ least. number < least) }
+/// Whether the product comes before that of a clash, if there is one.
+fn is_before(product: usize, first: Option<Clash>) -> bool
+    ensures { IsTrue result ↔ IfSome first (λ clash. product < clash.product) }
 {
     match first {
-        Some(least) => number < least,
+        Some(clash) => product < clash.product,
         None => true,
     }
 }
 
-/// The first number that both searches found at the product with this stamp.
-fn first_common(left: &Search, right: &Search, stamp: u32) -> Option<usize>
-    requires left { IsFinding stamp left.now }
-    requires right { IsFinding stamp right.now }
-    requires count { length left.now.stamps.items ≡ length right.now.stamps.items }
-    ensures common { IfSome result (λ v. Contains left.now.found.items v × Contains right.now.found.items v) }
-    ensures least { (v : ℕ) → Contains left.now.found.items v → Contains right.now.found.items v
-        → IsSomeAnd result (λ first. first ≤ v) }
+/// The first product of which a value has both places marked, and the first such value.
+fn first_clash(marks: &[u64]) -> Option<Clash>
+    ensures both { IfSome result (λ clash. HasBoth marks.now clash.product clash.value) }
+    ensures first { (r v : ℕ) → HasBoth marks.now r v
+        → IsSomeAnd result (λ clash. (clash.product < r) ⊎ ((clash.product ≡ r) × (clash.value ≤ v))) }
 {
     let mut first = None;
-    for k in 0..right.found.len() {
-        let number = right.found[k];
-        if left.has(stamp, number) && is_before(number, first) {
-            first = Some(number);
+    for value in 0..marks.len() {
+        if let Some(product) = first_pair(marks[value]) {
+            if is_before(product, first) {
+                first = Some(Clash { product, value });
+            }
         }
     }
     first
+}
+
+/// The block of a product of the batch.
+fn block_of(blocks: &[Op], batch: Batch, product: usize) -> usize
+    requires batch { IsBatch blocks.now batch.from batch }
+    requires there { product < batch.products }
+    ensures { IsNumbered blocks.now batch product result }
+{
+    let mut left = product;
+    let mut block = batch.from;
+    while block < batch.end {
+        if is_product(blocks[block]) {
+            if left == 0 {
+                return block;
+            }
+            left -= 1;
+        }
+        block += 1;
+    }
+    block
 }
 
 /// The value with this number.
@@ -200,21 +209,36 @@ fn value_at(code: &Code, number: usize) -> Operand
     }
 }
 
-/// Both operands, first the one with the greater number.
-fn later_first(code: &Code, left: Operand, right: Operand) -> (Operand, Operand)
-    ensures same { ((result.0 ≡ left) × (result.1 ≡ right)) ⊎ ((result.0 ≡ right) × (result.1 ≡ left)) }
-    ensures later { number_by_operand (shape_of code.now) result.1 ≤ number_by_operand (shape_of code.now) result.0 }
+/// The first product of which a value reaches both places, and the first such value, by words of marks, one for
+/// each value. It takes no memory. Its time is that of all values for each 32 products, whatever leads where.
+fn first_doubled(code: &Code, blocks: &[Op], marks: &mut [u64]) -> Option<(Operand, u32)>
+    requires wired { Wired (shape_of code.now) blocks.now }
+    requires small { length blocks.now < 2 ^ 32 }
+    requires count { length marks.old ≡ code.now.secrets + code.now.publics + length blocks.now }
+    ensures none { IfNone result (Undoubled (code.now.secrets + code.now.publics) (links (shape_of code.now) blocks.now)) }
+    ensures first { IfSome result (λ first. FirstDoubled (shape_of code.now) blocks.now first.0 first.1) }
 {
-    if number_of(code, left) < number_of(code, right) {
-        (right, left)
-    } else {
-        (left, right)
+    let mut from = 0;
+    while from < blocks.len() {
+        let batch = next_batch(blocks, from);
+        mark_all(code, blocks, batch, marks);
+        if let Some(clash) = first_clash(marks) {
+            let block = block_of(blocks, batch, clash.product) as u32;
+            return Some((value_at(code, clash.value), block));
+        }
+        from = batch.end;
     }
+    None
 }
 
-/// Answers `Doubled` for the first product of which a value reaches both places, with the first such
-/// value. A product costs what reaches its later operand, and of what reaches the other one the values that
-/// aren't before all of that, however many blocks there are.
+/// A word without marks for each of so many values.
+fn no_marks(alloc: Global, count: usize) -> Result<Vec<u64>, Memory>
+    ensures { IfOk result (λ marks. length marks.items ≡ count) }
+{
+    Ok(vec![in alloc; 0; count]?)
+}
+
+/// Answers `Doubled` for the first product of which a value reaches both places, with the first such value.
 pub(crate) fn undoubled(alloc: Global, code: &Code, blocks: &[Op]) -> Result<(), CheckRefusal>
     requires wired { Wired (shape_of code.now) blocks.now }
     requires small { length blocks.now < 2 ^ 32 }
@@ -222,21 +246,9 @@ pub(crate) fn undoubled(alloc: Global, code: &Code, blocks: &[Op]) -> Result<(),
     ensures doubled { IfErr result (λ e. (e ≡ CheckRefusal.Memory) ⊎ IsDoubling (shape_of code.now) blocks.now e) }
 {
     let count = code.secrets() as usize + code.publics() as usize + blocks.len();
-    let mut from_later = Search::new(alloc, count)?;
-    let mut from_earlier = Search::new(alloc, count)?;
-    for (block, op) in blocks.iter().enumerate() {
-        if let Op::Mul { left, right } = *op {
-            let (later, earlier) = later_first(code, left, right);
-            from_later.run(code, blocks, block, later, 0)?;
-            let least = from_later.first_number();
-            from_earlier.run(code, blocks, block, earlier, least)?;
-            if let Some(number) = first_common(&from_later, &from_earlier, block as u32 + 1) {
-                return Err(CheckRefusal::Doubled {
-                    value: value_at(code, number),
-                    block: block as u32,
-                });
-            }
-        }
+    let mut marks = no_marks(alloc, count)?;
+    match first_doubled(code, blocks, marks.as_mut_slice()) {
+        Some((value, block)) => Err(CheckRefusal::Doubled { value, block }),
+        None => Ok(()),
     }
-    Ok(())
 }

@@ -2,7 +2,7 @@
 
 ghost use Rattle.std.specs.Prelude.{◌≡◌, ◌+◌, ◌*◌, ◌<◌, ◌^◌, ◌↔◌, [], ℕ, IsTrue, MatchOption, length, slice_index_or};
 ghost use Rattle.mk_rules.specs.Accepts.{AreOutputs};
-ghost use Rattle.mk_rules.specs.Faults.{output_places, IsClaimed, FirstWrongOutput};
+ghost use Rattle.mk_rules.specs.Faults.{output_positions, IsClaimed, FirstWrongOutput};
 
 use crate::tiles::number_of;
 use crate::wired::is_shared_there;
@@ -10,20 +10,20 @@ use mk_base::Items;
 use mk_code::Code;
 use mk_ssa::{Op, Operand};
 
-/// Whether these are the places of a value's shares.
-fn is_bank(banks: &[Items<u32>], number: usize, places: &[u32]) -> bool
-    ensures { IsTrue result ↔ (slice_index_or banks.now number [] ≡ places.now) }
+/// Whether these are the positions of a value's shares.
+fn is_bank(banks: &[Items<u32>], number: usize, positions: &[u32]) -> bool
+    ensures { IsTrue result ↔ (slice_index_or banks.now number [] ≡ positions.now) }
 {
     match banks.get(number) {
-        Some(bank) => bank.as_slice() == places,
-        None => places.is_empty(),
+        Some(bank) => bank.as_slice() == positions,
+        None => positions.is_empty(),
     }
 }
 
-/// The places of the shares of output `k`.
+/// The positions of the shares of output `k`.
 fn output(code: &Code, k: usize) -> &[u32]
     requires { k * (code.now.order + 1) < length code.now.outs }
-    ensures { result.now ≡ output_places code.now k }
+    ensures { result.now ≡ output_positions code.now k }
 {
     code.law();
     let shares = usize::from(code.order()) + 1;

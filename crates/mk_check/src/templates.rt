@@ -54,8 +54,8 @@ impl Templates {
         }
     }
 
-    /// The place of share `k` in its out bank, if it has as many.
-    pub(crate) fn share_place(&self, op: &Op, k: u32) -> Option<u32>
+    /// The position of share `k` in its out bank, if it has as many.
+    pub(crate) fn share_position(&self, op: &Op, k: u32) -> Option<u32>
         ensures { result ≡ slice_get (template_of self.now op.now).outs k }
     {
         match op {
@@ -66,7 +66,7 @@ impl Templates {
         }
     }
 
-    /// How many instructions the template of a public or linear operator has, and its out bank places.
+    /// How many instructions the template of a public or linear operator has, and its out bank positions.
     fn rows(&self, op: &Op) -> u32
         ensures rows { (kind op.now ≢ Strong) → (result ≡ length (template_of self.now op.now).instrs)
             × (result ≡ length (template_of self.now op.now).outs) }
@@ -76,7 +76,7 @@ impl Templates {
     }
 }
 
-/// How many places the operands of an operator have.
+/// How many positions the operands of an operator have.
 fn operands(op: &Op, shares: u32) -> u32
     requires { shares ≤ 16 }
     ensures { result ≡ shares * length (shared_operands op.now) + length (public_operands op.now) }

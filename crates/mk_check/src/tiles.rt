@@ -11,8 +11,8 @@ ghost use Rattle.mk_rules.specs.Shape.{shape_of};
 ghost use Rattle.mk_rules.specs.Wired.{Wired};
 ghost use Rattle.mk_rules.specs.Privacy.{HaveTemplates};
 ghost use Rattle.mk_rules.specs.Tiles as rule;
-ghost use Rattle.mk_rules.specs.Tiles.{value_number as number_by_operand, input_banks as banks_of_inputs, first_place};
-ghost use Rattle.mk_check.specs.Gadgets.{far, template_of};
+ghost use Rattle.mk_rules.specs.Tiles.{value_number as number_by_operand, input_banks as banks_of_inputs, first_position};
+ghost use Rattle.mk_check.specs.Gadgets.{past_all_positions, template_of};
 ghost use Rattle.mk_check.specs.Laying.{all_laid, all_banks, AgreesTo, IsOffTile};
 
 use crate::refusal::CheckRefusal;
@@ -23,7 +23,7 @@ use mk_rules::value_number;
 use mk_ssa::{Op, Operand};
 use std::alloc::Global;
 
-/// The places of shares, for each value by its number.
+/// The positions of shares, for each value by its number.
 pub(crate) type BankList = Items<Items<u32>>;
 
 /// The number of a value over the inputs of a code.
@@ -33,16 +33,16 @@ pub(crate) fn number_of(code: &Code, value: Operand) -> usize
     value_number(code.secrets(), code.publics(), value)
 }
 
-/// Neighbouring places.
+/// Neighbouring positions.
 fn range(alloc: Global, first: u32, count: u32) -> Result<Items<u32>, Memory>
     requires { first + count < 2 ^ 32 }
-    ensures { IfOk result (λ places. places ≡ range_with_len first count) }
+    ensures { IfOk result (λ positions. positions ≡ range_with_len first count) }
 {
-    let mut places = Items::new(alloc);
+    let mut positions = Items::new(alloc);
     for k in 0..count {
-        places.push(first + k)?;
+        positions.push(first + k)?;
     }
-    Ok(places)
+    Ok(positions)
 }
 
 /// The banks of the secrets and of the publics.
@@ -61,54 +61,54 @@ fn input_banks(alloc: Global, code: &Code) -> Result<BankList, Memory>
     Ok(banks)
 }
 
-/// Appends the places of a value's shares.
+/// Appends the positions of a value's shares.
 fn read(
-    places: &mut Items<u32>,
+    positions: &mut Items<u32>,
     code: &Code,
     banks: &[Items<u32>],
     value: Operand,
 ) -> Result<(), Memory>
-    ensures { IfOk result (λ _. places.new ≡ places.old ++ slice_index_or banks.now
+    ensures { IfOk result (λ _. positions.new ≡ positions.old ++ slice_index_or banks.now
         (number_by_operand (shape_of code.now) value) []) }
 {
     if let Some(bank) = banks.get(number_of(code, value)) {
-        for place in bank.as_slice() {
-            places.push(*place)?;
+        for position in bank.as_slice() {
+            positions.push(*position)?;
         }
     }
     Ok(())
 }
 
-/// The places that a block of this operator reads.
+/// The positions that a block of this operator reads.
 fn reads(alloc: Global, code: &Code, banks: &[Items<u32>], op: &Op) -> Result<Items<u32>, Memory>
-    ensures { IfOk result (λ places. places ≡ rule.reads (shape_of code.now) banks.now op.now) }
+    ensures { IfOk result (λ positions. positions ≡ rule.reads (shape_of code.now) banks.now op.now) }
 {
-    let mut places = Items::new(alloc);
+    let mut positions = Items::new(alloc);
     let (first, second) = op.operands();
     if let Some(value) = first {
-        read(&mut places, code, banks, value)?;
+        read(&mut positions, code, banks, value)?;
     }
     if let Some(value) = second {
-        read(&mut places, code, banks, value)?;
+        read(&mut positions, code, banks, value)?;
     }
-    Ok(places)
+    Ok(positions)
 }
 
-/// Where a place of a gadget stands that is placed at `base`.
-fn placed(reads: &[u32], base: u32, place: u32) -> u32
-    requires { base + place < 2 ^ 32 }
-    ensures { result ≡ placement reads.now base place }
+/// Where a position of a gadget stands that is placed at `base`.
+fn placed(reads: &[u32], base: u32, position: u32) -> u32
+    requires { base + position < 2 ^ 32 }
+    ensures { result ≡ placement reads.now base position }
 {
-    match reads.get(place as usize) {
+    match reads.get(position as usize) {
         Some(read) => *read,
-        None => base + (place - reads.len() as u32),
+        None => base + (position - reads.len() as u32),
     }
 }
 
 /// An instruction of a gadget that is placed at `base`.
 fn placed_instr(code: &Code, reads: &[u32], base: u32, instr: Instr) -> Instr
-    requires fits { FitsAt code.now.field (length code.now.maps) far instr }
-    requires base { base ≤ far }
+    requires fits { FitsAt code.now.field (length code.now.maps) past_all_positions instr }
+    requires base { base ≤ past_all_positions }
     ensures { result ≡ moved (placement reads.now base) instr }
 {
     code.law();
@@ -142,9 +142,9 @@ fn are_same(left: Instr, right: Instr) -> bool
     left == right
 }
 
-/// The place of the first instruction.
+/// The position of the first instruction.
 fn first_instr(code: &Code) -> u32
-    ensures place { result ≡ first_place (shape_of code.now) }
+    ensures position { result ≡ first_position (shape_of code.now) }
     ensures small { result ≤ (TOP_ORDER + 2) * MOST_INPUTS }
 {
     code.law();
@@ -152,7 +152,7 @@ fn first_instr(code: &Code) -> u32
 }
 
 /// The number of the instruction behind block `k`, whose first one has the number `start` and which
-/// reads these places, if the code's instructions up to there are the template's.
+/// reads these positions, if the code's instructions up to there are the template's.
 fn behind_block(
     code: &Code,
     templates: &Templates,
@@ -202,13 +202,13 @@ fn out_bank(
     reads: &[u32],
     base: u32,
 ) -> Result<Items<u32>, Memory>
-    requires outs { AllBelow far (template_of templates.now op.now).outs }
-    requires base { base ≤ far }
+    requires outs { AllBelow past_all_positions (template_of templates.now op.now).outs }
+    requires base { base ≤ past_all_positions }
     ensures { IfOk result (λ bank. bank ≡ placed_outs reads.now base (template_of templates.now op.now)) }
 {
     let mut bank = Items::new(alloc);
     let mut share = 0;
-    while let Some(out) = templates.share_place(op, share) {
+    while let Some(out) = templates.share_position(op, share) {
         bank.push(placed(reads, base, out))?;
         share += 1;
     }
@@ -234,10 +234,10 @@ pub(crate) fn lay(
     let mut banks = input_banks(alloc, code)?;
     let mut start = 0;
     for (k, op) in blocks.iter().enumerate() {
-        let places = reads(alloc, code, banks.as_slice(), op)?;
-        let end = behind_block(code, templates, blocks, k, op, places.as_slice(), start)?;
+        let positions = reads(alloc, code, banks.as_slice(), op)?;
+        let end = behind_block(code, templates, blocks, k, op, positions.as_slice(), start)?;
         let base = first_instr(code) + start;
-        banks.push(out_bank(alloc, templates, op, places.as_slice(), base)?)?;
+        banks.push(out_bank(alloc, templates, op, positions.as_slice(), base)?)?;
         start = end;
     }
     if (start as usize) < code.instrs().len() {

@@ -25,7 +25,7 @@ stays_in column own (Mul left right) = may_read (column left) own && may_read (c
 stays_in column own (Sq from) = may_read (column from) own
 stays_in column own (Map map from) = may_read (column from) own
 
--- whether each of the instructions behind `len` entries stays in the column of its place
+-- whether each of the instructions behind `len` entries stays in the column of its position
 abbrev pub all_stay_in : (ℕ → Option ℕ) → ℕ → List Instr → Bool
 all_stay_in column len [] = true
 all_stay_in column len (i ∷ is) = stays_in column (column len) i && all_stay_in column (len + 1) is
@@ -45,7 +45,7 @@ made_of column (Mul left right) = joint (column left) (column right)
 made_of column (Sq from) = column from
 made_of column (Map map from) = column from
 
--- the column at a place of the list, none past its end
+-- the column at a position of the list, none past its end
 abbrev pub listed : List (Option ℕ) → ℕ → Option ℕ
 listed columns p = slice_index_or columns p None
 
@@ -64,7 +64,7 @@ abbrev pub input_columns : ℕ → ℕ → ℕ → List (Option ℕ)
 input_columns order zero publics = replicate publics None
 input_columns order (suc n) publics = share_columns (suc order) 0 ++ input_columns order n publics
 
--- the columns of the places of the code's trace
+-- the columns of the positions of the code's trace
 abbrev pub columns_of : Listing → ℕ → Option ℕ
 columns_of code = listed (with_instrs (input_columns code.order code.secrets code.publics) code.instrs)
 
@@ -133,25 +133,25 @@ length-input_columns order (suc n) publics =
 listed-share : (order n publics i j : ℕ) → i < n → j ≤ order → listed (input_columns order n publics) (i * (order + 1) + j) ≡ Some j
 listed-share order zero publics i j first fits = absurd (omega arith)
 listed-share order (suc n) publics zero j first fits =
-    let place : 0 * (order + 1) + j ≡ j = omega (arith, zero-mul (order + 1)) in
+    let position : 0 * (order + 1) + j ≡ j = omega (arith, zero-mul (order + 1)) in
     let e : 0 + j ≡ j = omega arith in
-    ap (listed (input_columns order (suc n) publics)) place
+    ap (listed (input_columns order (suc n) publics)) position
     ∙ get_or_append_left (share_columns (suc order) 0) (input_columns order n publics) None j (omega (arith, length-share_columns (suc order) 0))
     ∙ listed-share_columns (suc order) 0 j (omega arith) ∙ ap Some e
 listed-share order (suc n) publics (suc i) j first fits =
-    let place : suc i * (order + 1) + j ≡ length (share_columns (suc order) 0) + (i * (order + 1) + j) = omega (arith, suc-mul i (order + 1), length-share_columns (suc order) 0) in
-    ap (listed (input_columns order (suc n) publics)) place
+    let position : suc i * (order + 1) + j ≡ length (share_columns (suc order) 0) + (i * (order + 1) + j) = omega (arith, suc-mul i (order + 1), length-share_columns (suc order) 0) in
+    ap (listed (input_columns order (suc n) publics)) position
     ∙ get_or-append-add (share_columns (suc order) 0) (input_columns order n publics) (i * (order + 1) + j) None
     ∙ listed-share order n publics i j (omega arith) fits
 
 -- a public input has no column
 listed-public : (order n publics k : ℕ) → k < publics → listed (input_columns order n publics) (n * (order + 1) + k) ≡ None
 listed-public order zero publics k below =
-    let place : 0 * (order + 1) + k ≡ k = omega (arith, zero-mul (order + 1)) in
-    ap (listed (input_columns order 0 publics)) place ∙ get_or-replicate publics k None None below
+    let position : 0 * (order + 1) + k ≡ k = omega (arith, zero-mul (order + 1)) in
+    ap (listed (input_columns order 0 publics)) position ∙ get_or-replicate publics k None None below
 listed-public order (suc n) publics k below =
-    let place : suc n * (order + 1) + k ≡ length (share_columns (suc order) 0) + (n * (order + 1) + k) = omega (arith, suc-mul n (order + 1), length-share_columns (suc order) 0) in
-    ap (listed (input_columns order (suc n) publics)) place
+    let position : suc n * (order + 1) + k ≡ length (share_columns (suc order) 0) + (n * (order + 1) + k) = omega (arith, suc-mul n (order + 1), length-share_columns (suc order) 0) in
+    ap (listed (input_columns order (suc n) publics)) position
     ∙ get_or-append-add (share_columns (suc order) 0) (input_columns order n publics) (n * (order + 1) + k) None
     ∙ listed-public order n publics k below
 

@@ -1,16 +1,16 @@
 -- Code that works share by share: each entry depends on the shares of its column alone, and so the code is
--- private, since an observer of at most `order` places sees nothing of some column.
+-- private, since an observer of at most `order` positions sees nothing of some column.
 use Rattle.std.proofs.Common.{◌≡◌, ◌≢◌, ℕ, zero, suc, ◌+◌, ◌-◌, ◌*◌, ◌<◌, ◌≤◌, List, [], ◌∷◌, ◌++◌, length, take, drop, map, slice_index, Option, Some, None, IfSome, subst, refl, sym, ◌∙◌, ap, arith, inl, inr, length-append, suc-mul, zero-mul}
 use Rattle.std.proofs.lemmas.List.{length-map, get_or-append_right, take_all, get_or_append_left, get_or_push, get_or_past}
 use Rattle.std.proofs.lemmas.Bool.{cases_order, cases_lt}
 use Rattle.mk_field.specs.declared.field.FieldId.{FieldId}
 use Rattle.mk_field.specs.declared.map.AddMap.{AddMap}
-use Rattle.mk_field.specs.Field.{bits, size, product, square}
+use Rattle.mk_field.specs.Field.{bits, size, product, square, image_by}
 use Rattle.mk_field.specs.Sharing.{encodings}
 use Rattle.mk_code.specs.declared.instr.Instr.{Instr}
 use Rattle.mk_code.specs.declared.instr.Instr.TheVariants.{Rnd, Const, Copy, Add, Mul, Sq, Map}
 use Rattle.mk_code.specs.Listing.{Listing, inputs_len}
-use Rattle.mk_code.specs.Trace.{entry, takes, randoms, run, trace, image_by}
+use Rattle.mk_code.specs.Trace.{entry, takes, randoms, run, trace}
 use Rattle.mk_code.specs.Counting.{total, one_if_equal}
 use Rattle.mk_code.specs.Private.{observation, spent, masked_trace, ways, Private}
 use Rattle.mk_code.specs.Shares.{LooksPast}
@@ -19,7 +19,7 @@ use Rattle.mk_code.proofs.Totals.{total-same}
 use Rattle.mk_code.proofs.LeftOut.{IsLeftOut, left_out}
 use Rattle.mk_code.proofs.Encodings.{encodings-law}
 
--- two traces are equal at each place whose column is one of `In`
+-- two traces are equal at each position whose column is one of `In`
 record AgreeOn (column : ℕ → Option ℕ) (In : Option ℕ → Type 0) (u v : List ℕ) : Type 0 where
   at : (p : ℕ) → In (column p) → slice_index u p ≡ slice_index v p
 
@@ -107,7 +107,7 @@ run-any_tape field maps column len (Sq from ∷ is) s t u stay =
 run-any_tape field maps column len (Map map from ∷ is) s t u stay =
     run-any_tape field maps column (len + 1) is s t (u ++ entry field maps (Map map from) 0 u ∷ []) stay.1
 
--- a place among the shares of n values is that of some share of one of them
+-- a position among the shares of n values is that of some share of one of them
 share-at : (order n p : ℕ) → p < n * (order + 1) → (i : ℕ) × (j : ℕ) × (i < n) × (j ≤ order) × (p ≡ i * (order + 1) + j)
 share-at order zero p below = absurd (omega (arith, zero-mul (order + 1)))
 share-at order (suc n) p below = elim (cases_order p (n * (order + 1))) [
@@ -195,7 +195,7 @@ number : Option ℕ → ℕ
 number None = 0
 number (Some j) = j
 
--- places outside a column show the same of traces that are equal outside it
+-- positions outside a column show the same of traces that are equal outside it
 observation-off : (column : ℕ → Option ℕ) (f : ℕ) (probes u v : List ℕ) → IsLeftOut f (map (λ p. number (column p)) probes)
     → AgreeOn column (λ c. c ≢ Some f) u v → observation probes u ≡ observation probes v
 unfolding IsLeftOut number

@@ -30,7 +30,7 @@ AllBelow-added k [] s left right = right
 AllBelow-added k (x ∷ d) [] left right = left
 AllBelow-added k (x ∷ d) (a ∷ s) left right = (sum-below k x a left.0 right.0, AllBelow-added k d s left.1 right.1)
 
--- v at place n behind zeros
+-- v at position n behind zeros
 lone : ℕ → ℕ → List ℕ
 lone zero v = v ∷ []
 lone (suc n) v = 0 ∷ lone n v
@@ -53,7 +53,7 @@ unfolding lone AllBelow
 AllBelow-lone k zero v below = (below, tt)
 AllBelow-lone k (suc n) v below = (omega arith, AllBelow-lone k n v below)
 
--- added to a list it changes that place only
+-- added to a list it changes that position only
 added-lone : (n v : ℕ) (s : List ℕ) (j : ℕ) → n < length s → j ≢ n → slice_index (added (lone n v) s) j ≡ slice_index s j
 unfolding lone added
 added-lone n v [] j fits other = absurd (omega arith)
@@ -153,14 +153,14 @@ Elements-encodings k order (suc n) (x ∷ xs) s secrets here =
 -- a share of the first of several values
 first-share : (order j : ℕ) (e u : List ℕ) → length e ≡ suc order → j ≤ order → slice_index (e ++ u) (0 * (order + 1) + j) ≡ slice_index e j
 first-share order j e u long fits =
-    let place : 0 * (order + 1) + j ≡ j = omega (arith, zero-mul (order + 1)) in
-    ap (slice_index (e ++ u)) place ∙ get_or_append_left e u 0 j (omega arith)
+    let position : 0 * (order + 1) + j ≡ j = omega (arith, zero-mul (order + 1)) in
+    ap (slice_index (e ++ u)) position ∙ get_or_append_left e u 0 j (omega arith)
 
 -- a share of a value behind the first
 later-share : (order i j : ℕ) (e u : List ℕ) → length e ≡ suc order → slice_index (e ++ u) (suc i * (order + 1) + j) ≡ slice_index u (i * (order + 1) + j)
 later-share order i j e u long =
-    let place : suc i * (order + 1) + j ≡ length e + (i * (order + 1) + j) = omega (arith, suc-mul i (order + 1), long) in
-    ap (slice_index (e ++ u)) place ∙ get_or-append-add e u (i * (order + 1) + j) 0
+    let position : suc i * (order + 1) + j ≡ length e + (i * (order + 1) + j) = omega (arith, suc-mul i (order + 1), long) in
+    ap (slice_index (e ++ u)) position ∙ get_or-append-add e u (i * (order + 1) + j) 0
 
 -- equal shares of the first value, and others that are equal but for the hidden ones
 agree-behind : (order n : ℕ) (hidden : ℕ → ℕ) (e u v : List ℕ) → length e ≡ suc order
@@ -215,9 +215,9 @@ encodings-law k order (suc n) hidden h (x ∷ xs) (y ∷ ys) within looks left r
     (agree-before order n hidden d e (encodings order ys b) first.count second.count agree)))
     ∙ sym (total-encodings-cons q order n y ys h)
 
--- places that leave f out show the same of lists that are equal but at f
-pub observation-left_out : (f : ℕ) (places u v : List ℕ) → IsLeftOut f places
-    → ((j : ℕ) → j ≢ f → slice_index u j ≡ slice_index v j) → observation places u ≡ observation places v
+-- positions that leave f out show the same of lists that are equal but at f
+pub observation-left_out : (f : ℕ) (positions u v : List ℕ) → IsLeftOut f positions
+    → ((j : ℕ) → j ≢ f → slice_index u j ≡ slice_index v j) → observation positions u ≡ observation positions v
 unfolding IsLeftOut
 observation-left_out f [] u v out agree = refl
 observation-left_out f (p ∷ ps) u v out agree =

@@ -7,7 +7,7 @@ unfoldable pub IsLeftOut : ℕ → List ℕ → Type 0
 IsLeftOut f [] = Unit {0}
 IsLeftOut f (x ∷ xs) = (x ≢ f) × IsLeftOut f xs
 
--- the list without the first place where f stands
+-- the list without the first position where f stands
 unfoldable without : ℕ → List ℕ → List ℕ
 without f [] = []
 without f (x ∷ xs) = if nat_eq x f then xs else x ∷ without f xs

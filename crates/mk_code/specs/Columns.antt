@@ -23,12 +23,12 @@ StaysIn column own (Mul left right) = MayRead (column left) own × MayRead (colu
 StaysIn column own (Sq from) = MayRead (column from) own
 StaysIn column own (Map map from) = MayRead (column from) own
 
--- each of the instructions behind `len` entries stays in the column of its place
+-- each of the instructions behind `len` entries stays in the column of its position
 abbrev pub AllStayIn : (ℕ → Option ℕ) → ℕ → List Instr → Type 0
 AllStayIn column len [] = Unit {0}
 AllStayIn column len (i ∷ is) = StaysIn column (column len) i × AllStayIn column (len + 1) is
 
--- these are columns of the places of the code's trace: share j of each secret has column j, a public
+-- these are columns of the positions of the code's trace: share j of each secret has column j, a public
 -- input none, and each instruction stays in its own
 pub record AreColumns (code : Listing) (column : ℕ → Option ℕ) : Type 0 where
   pub shares : (i j : ℕ) → i < code.secrets → j ≤ code.order → column (i * (code.order + 1) + j) ≡ Some j
@@ -46,8 +46,8 @@ AgreeAt order count j u v =
     (i : ℕ) → i < count → slice_index u (i * (order + 1) + j) ≡ slice_index v (i * (order + 1) + j)
 
 -- each entry depends on the publics and on the shares of its column alone: two runs over the same
--- publics, whatever their tapes, have the same entry at a place of column j if share j of each secret
--- is the same, and at a place of no column whatever the shares are
+-- publics, whatever their tapes, have the same entry at a position of column j if share j of each secret
+-- is the same, and at a position of no column whatever the shares are
 abbrev pub DependOnColumns : Listing → (ℕ → Option ℕ) → Type 0
 DependOnColumns code column =
     (publics first second tape other : List ℕ) (p : ℕ)

@@ -3,7 +3,7 @@ use Rattle.std.specs.Prelude.{◌≡◌, ◌≢◌, ℕ, ◌+◌, ◌*◌, ◌^�
 use Rattle.mk_field.specs.Sharing.{added}
 use Rattle.mk_code.specs.Counting.{total, one_if_equal, AllBelow, Elements}
 
--- f gives the same for lists of n numbers below q that are equal but at place j
+-- f gives the same for lists of n numbers below q that are equal but at position j
 pub record Overlooks {A : Type 0} (q n j : ℕ) (f : List ℕ → A) : Type 0 where
   pub same : (s t : List ℕ) → Elements q n s → Elements q n t → ((i : ℕ) → i ≢ j → slice_index s i ≡ slice_index t i) → f s ≡ f t
 

@@ -27,10 +27,10 @@ finished field d outs = record { field = field; order = d.order; secrets = d.sec
 
 -- a code in the making is whole with these outs: its order is in range, and they are in the trace
 -- and as many for each output as there are shares
-pub record IsWholeWith (d : Draft) (places : List ℕ) : Type 0 where
+pub record IsWholeWith (d : Draft) (positions : List ℕ) : Type 0 where
   pub order : (1 ≤ d.order) × (d.order ≤ TOP_ORDER)
-  pub outs : All (λ p. p < draft_len d) places
-  pub outputs : (outputs : ℕ) × (outputs ≤ MOST_INPUTS) × (length places ≡ outputs * (d.order + 1))
+  pub outs : All (λ p. p < draft_len d) positions
+  pub outputs : (outputs : ℕ) × (outputs ≤ MOST_INPUTS) × (length positions ≡ outputs * (d.order + 1))
 
 -- what always holds of a code in the making
 pub record IsDraft (field : FieldId) (d : Draft) : Type 0 where

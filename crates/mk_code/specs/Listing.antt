@@ -8,7 +8,7 @@ use Rattle.mk_code.specs.declared.instr.Instr.{Instr}
 use Rattle.mk_code.specs.declared.instr.Instr.TheVariants.{Rnd, Const, Copy, Add, Mul, Sq, Map}
 use Rattle.mk_code.specs.declared.TheConstants.{MOST_INPUTS, MOST_MAPS, MOST_INSTRS}
 
--- a code: its field, order, numbers of secrets and publics, maps, instructions, and the places of its
+-- a code: its field, order, numbers of secrets and publics, maps, instructions, and the positions of its
 -- outputs' shares, output by output
 pub record Listing : Type 0 where
   pub field : FieldId

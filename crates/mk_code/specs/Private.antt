@@ -8,7 +8,7 @@ use Rattle.mk_code.specs.Listing.{Listing, trace_len}
 use Rattle.mk_code.specs.Trace.{randoms, trace}
 use Rattle.mk_code.specs.Counting.{total, one_if_equal, AllBelow, Elements}
 
--- what an observer of these places of the trace sees, in the order of the places
+-- what an observer of these positions of the trace sees, in the order of the positions
 abbrev pub observation : List ℕ → List ℕ → List ℕ
 observation probes entries = map (λ p. slice_index entries p) probes
 
@@ -22,13 +22,13 @@ abbrev pub masked_trace : Listing → List ℕ → List ℕ → List ℕ → Lis
 masked_trace code publics secrets tape =
     trace code publics (encodings code.order secrets (take (spent code) tape)) (drop (spent code) tape)
 
--- the number of tapes for which an observer of these places sees `seen`
+-- the number of tapes for which an observer of these positions sees `seen`
 abbrev pub ways : Listing → List ℕ → List ℕ → List ℕ → List ℕ → ℕ
 ways code publics secrets probes seen =
     total (size code.field) (spent code + randoms code.instrs)
     (λ tape. one_if_equal (observation probes (masked_trace code publics secrets tape)) seen)
 
--- for the same public inputs and any two lists of secrets, at most `order` places of the trace show each
+-- for the same public inputs and any two lists of secrets, at most `order` positions of the trace show each
 -- list of values in equally many ways
 abbrev pub Private : Listing → Type 0
 Private code =

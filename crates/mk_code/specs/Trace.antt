@@ -1,15 +1,11 @@
 -- What code computes.
-use Rattle.std.specs.Prelude.{ℕ, ◌+◌, List, [], ◌∷◌, ◌++◌, drop, bit_xor, slice_index, slice_index_or}
+use Rattle.std.specs.Prelude.{ℕ, ◌+◌, List, [], ◌∷◌, ◌++◌, drop, bit_xor, slice_index}
 use Rattle.mk_field.specs.declared.field.FieldId.{FieldId}
 use Rattle.mk_field.specs.declared.map.AddMap.{AddMap}
-use Rattle.mk_field.specs.Field.{product, square, image}
+use Rattle.mk_field.specs.Field.{product, square, image_by}
 use Rattle.mk_code.specs.declared.instr.Instr.{Instr}
 use Rattle.mk_code.specs.declared.instr.Instr.TheVariants.{Rnd, Const, Copy, Add, Mul, Sq, Map}
 use Rattle.mk_code.specs.Listing.{Listing}
-
--- the image of a under the map of this number; there is one in a code that fits together
-abbrev pub image_by : List AddMap → ℕ → ℕ → ℕ
-image_by maps m a = image (slice_index_or maps m (record { images = [] })) a
 
 -- the value of an instruction behind these entries of the trace, the next element of the tape being `word`
 abbrev pub entry : FieldId → List AddMap → Instr → ℕ → List ℕ → ℕ

@@ -76,19 +76,19 @@ impl<F: Field> CodeBuilder<F> {
         Ok(())
     }
 
-    /// Appends an instruction, for which room was reserved, and answers the place of its value. It
+    /// Appends an instruction, for which room was reserved, and answers the position of its value. It
     /// takes no memory.
     pub fn push(&mut self, instr: Instr) -> u32
         requires room { 0 < self.old.spare }
         requires few { length self.old.instrs < MOST_INSTRS }
         requires fits { FitsAt F.ID (length self.old.maps) (draft_len self.old) instr }
-        ensures place { result ≡ draft_len self.old }
+        ensures position { result ≡ draft_len self.old }
         ensures pushed { self.new ≡ record self.old { instrs = self.old.instrs ++ instr ∷ []; spare = self.old.spare - 1 } }
     {
-        let place = self.len();
+        let position = self.len();
         self.random_len += instr.randoms();
         self.instrs.push_reserved(instr);
-        place
+        position
     }
 
     /// How many entries the trace has so far.
@@ -105,7 +105,7 @@ impl<F: Field> CodeBuilder<F> {
         self.len() == 0
     }
 
-    /// The code with these outs: places in the trace, one for each share of each output. It takes no
+    /// The code with these outs: positions in the trace, one for each share of each output. It takes no
     /// memory.
     pub fn finish(self, outs: PositionList) -> Code
         requires { IsWholeWith self outs }

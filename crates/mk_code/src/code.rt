@@ -15,7 +15,7 @@ pub type MapList = Items<AddMap>;
 /// A list of instructions.
 pub type InstrList = Items<Instr>;
 
-/// A list of places in a trace.
+/// A list of positions in a trace.
 pub type PositionList = Items<u32>;
 
 /// A code that fits together: its instructions read entries, maps and elements that there are, its
@@ -127,7 +127,7 @@ impl Code {
         &self.instrs
     }
 
-    /// The places of the outputs' shares, output by output.
+    /// The positions of the outputs' shares, output by output.
     pub fn outs(&self) -> &PositionList
         ensures { result.now ≡ self.now.outs }
     {

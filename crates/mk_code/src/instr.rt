@@ -1,7 +1,7 @@
 ghost use Rattle.std.specs.Prelude.{◌≡◌};
 ghost use Rattle.mk_code.specs.Trace.{takes};
 
-/// An instruction. Its operands are places in the trace.
+/// An instruction. Its operands are positions in the trace.
 #[derive(Clone, Copy, Debug, PartialEq, Eq)]
 pub enum Instr {
     /// The next random element of the tape.

@@ -2,7 +2,7 @@
 //! instruction after the other.
 //!
 //! The trace of a code lists the shares of the secrets, then the public inputs, then one value for
-//! each instruction. Share j of secret i is at place `i * (order + 1) + j`, public input k at
+//! each instruction. Share j of secret i is at position `i * (order + 1) + j`, public input k at
 //! `secrets * (order + 1) + k` and the value of instruction k at `secrets * (order + 1) + publics + k`.
 #![tactic(auto)]
 

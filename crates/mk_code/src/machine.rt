@@ -1,8 +1,8 @@
 ghost use Rattle.std.specs.Prelude.{◌≡◌, ◌+◌, ◌*◌, ◌≤◌, ◌<◌, ◌↔◌, ℕ, List, ◌++◌, length, drop, slice_index, IfOk, IsTrue};
-ghost use Rattle.mk_field.specs.Field.{size};
+ghost use Rattle.mk_field.specs.Field.{size, image_by};
 ghost use Rattle.mk_code.specs.Counting.{Elements};
 ghost use Rattle.mk_code.specs.Listing.{FitsAt};
-ghost use Rattle.mk_code.specs.Trace.{takes, entry, image_by};
+ghost use Rattle.mk_code.specs.Trace.{takes, entry};
 ghost use Rattle.mk_code.specs.Machine.{IsProgress, next, stepped, needed, outcome};
 ghost use Rattle.mk_code.specs.Used.{words};
 
@@ -114,13 +114,13 @@ impl<'a> Machine<'a> {
         }
     }
 
-    /// The entry at a place.
-    fn read(&self, place: u32) -> u8
-        requires { place < length self.now.entries }
-        ensures value { result ≡ slice_index self.now.entries place }
+    /// The entry at a position.
+    fn read(&self, position: u32) -> u8
+        requires { position < length self.now.entries }
+        ensures value { result ≡ slice_index self.now.entries position }
         ensures element { result < size self.now.code.field }
     {
-        self.entries[place as usize]
+        self.entries[position as usize]
     }
 
     /// The image of an element under the map of this number.

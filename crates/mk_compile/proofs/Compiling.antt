@@ -19,10 +19,10 @@ use Rattle.mk_rules.specs.Claimed.{Claimed}
 use Rattle.mk_rules.specs.Wired.{Wired}
 use Rattle.mk_rules.specs.Accepts.{IsAccepted}
 use Rattle.mk_rules.specs.Shape.{shape_of}
-use Rattle.mk_place.specs.Uses.{plain}
+use Rattle.mk_place.specs.Uses.{shape_of_values}
 use Rattle.mk_place.specs.Layout.{renamed}
 use Rattle.mk_place.specs.Placed.{Placed}
-use Rattle.mk_compile.specs.Emitting.{bare, blocks_len, code_of}
+use Rattle.mk_compile.specs.Emitting.{shape_from, blocks_len, code_of}
 use Rattle.mk_compile.specs.RightValues.{stands_for}
 use Rattle.mk_compile.specs.Correct.{Correct}
 use Rattle.mk_compile.proofs.Meanings.{laid-meaning}
@@ -63,17 +63,17 @@ module _ (p : Program) (order : ℕ) (u s : Values) (cert : Claimed) (is : u ≡
       ∙ sym (length-map s.outs (tree_of s.values)) ∙ ap length simplified.outs ∙ length-map u.outs (tree_of u.values)
 
   -- the claims stand for what the outputs do
-  module _ (fit : IsValues s) (wired : Wired (plain s) cert.blocks) (meaning : (publics secrets : List ℕ) → denoted s publics secrets ≡ denoted u publics secrets) where
+  module _ (fit : IsValues s) (wired : Wired (shape_of_values s) cert.blocks) (meaning : (publics secrets : List ℕ) → denoted s publics secrets ≡ denoted u publics secrets) where
     -- the claims stand for what the program is unrolled to
-    cert-meaning : (publics secrets : List ℕ) → map (stands_for (plain s) cert.blocks publics secrets) cert.claims ≡ denoted (unrolled p) publics secrets
+    cert-meaning : (publics secrets : List ℕ) → map (stands_for (shape_of_values s) cert.blocks publics secrets) cert.claims ≡ denoted (unrolled p) publics secrets
     cert-meaning publics secrets =
-        ap (λ (x : Claimed). map (stands_for (plain s) x.blocks publics secrets) x.claims) placed.laid
-        ∙ laid-meaning s fit placed.marks (subst (λ (x : Claimed). Wired (plain s) x.blocks) placed.laid wired) publics secrets
+        ap (λ (x : Claimed). map (stands_for (shape_of_values s) x.blocks publics secrets) x.claims) placed.laid
+        ∙ laid-meaning s fit placed.marks (subst (λ (x : Claimed). Wired (shape_of_values s) x.blocks) placed.laid wired) publics secrets
         ∙ meaning publics secrets
         ∙ ap (λ (v : Values). denoted v publics secrets) is
 
     -- so the code is correct
-    pub code-correct : IsRegular p → IsWellTyped p → Ends p → (code : Listing) → code ≡ code_of (bare s.field order s.secrets s.publics s.maps) cert
+    pub code-correct : IsRegular p → IsWellTyped p → Ends p → (code : Listing) → code ≡ code_of (shape_from s.field order s.secrets s.publics s.maps) cert
         → HasElementImages code → IsAccepted code cert → Correct p order code
     code-correct regular typed ends code made images accepted =
         made-correct p order code cert regular typed ends (record {

@@ -1,7 +1,7 @@
 -- The template of each operator, placed, gives what the operator stands for over the values of its operands.
 use Rattle.std.proofs.Common.{◌≡◌, ℕ, ◌+◌, ◌-◌, ◌<◌, List, [], ◌∷◌, ◌++◌, length, slice_index, slice_index_or, bit_xor, sym, ◌∙◌, ap, refl, subst, arith, append-nil}
 use Rattle.std.proofs.lemmas.List.{get_or_push}
-use Rattle.mk_field.specs.Field.{size, product, square}
+use Rattle.mk_field.specs.Field.{size, product, square, image_by}
 use Rattle.mk_field.specs.Sharing.{field_sum}
 use Rattle.mk_field.proofs.Sum.{sum-zero_right}
 use Rattle.mk_code.specs.declared.instr.Instr.{Instr}
@@ -12,7 +12,7 @@ use Rattle.mk_code.specs.Private.{observation}
 use Rattle.mk_ssa.specs.declared.Operand.{Operand}
 use Rattle.mk_ssa.specs.declared.Op.{Op}
 use Rattle.mk_ssa.specs.declared.Op.TheVariants.{Const, PubAdd, PubMul, PubSq, PubMap, Lift, Add, AddPub, Scale, Sq, Map, Mul, Refresh}
-use Rattle.mk_ssa.specs.Denoted.{value_by, image_by}
+use Rattle.mk_ssa.specs.Denoted.{value_by}
 use Rattle.mk_gadget.specs.Gadget.{Gadget, placed, placed_outs}
 use Rattle.mk_gadget.specs.Emitted.{shared_at}
 use Rattle.mk_gadget.specs.Template.{built_in}
@@ -26,21 +26,21 @@ use Rattle.mk_rules.specs.Wired.{IsSharedThere, IsPublicThere, IsWired}
 abbrev pub operand_bank : Shape → List (List ℕ) → Operand → List ℕ
 operand_bank shape banks v = slice_index_or banks (value_number shape v) []
 
--- what the places of a value have as sum
+-- what the positions of a value have as sum
 abbrev pub sum_at : Shape → List (List ℕ) → List ℕ → Operand → ℕ
 sum_at shape banks entries v = shared_at (operand_bank shape banks v) entries
 
--- a bank with one place
-one-place : (xs : List ℕ) → length xs ≡ 1 → xs ≡ slice_index xs 0 ∷ []
-one-place [] one = absurd (omega (arith, one))
-one-place (x ∷ []) one = refl
-one-place (x ∷ y ∷ xs) one = absurd (omega (arith, one))
+-- a bank with one position
+one-position : (xs : List ℕ) → length xs ≡ 1 → xs ≡ slice_index xs 0 ∷ []
+one-position [] one = absurd (omega (arith, one))
+one-position (x ∷ []) one = refl
+one-position (x ∷ y ∷ xs) one = absurd (omega (arith, one))
 
 -- has what stands there as sum
 one-sum : (xs entries : List ℕ) → length xs ≡ 1 → slice_index entries (slice_index xs 0) ≡ shared_at xs entries
 unfolding field_sum
 one-sum xs entries one =
-    sym (sum-zero_right (slice_index entries (slice_index xs 0))) ∙ ap (λ (ps : List ℕ). shared_at ps entries) (sym (one-place xs one))
+    sym (sum-zero_right (slice_index entries (slice_index xs 0))) ∙ ap (λ (ps : List ℕ). shared_at ps entries) (sym (one-position xs one))
 
 -- an instruction behind entries has its value behind them as sum
 single-value : (shape : Shape) (base : ℕ) (at : List ℕ) (gadget : Gadget) (i : Instr) (value : ℕ) (tape entries : List ℕ)
@@ -65,11 +65,11 @@ module _ (shape : Shape) (banks : List (List ℕ)) (base : ℕ) (before : List O
   abbrev at_ : Operand → List ℕ
   at_ v = operand_bank shape banks v
 
-  -- the only place of a public one
-  abbrev place_ : Operand → ℕ
-  place_ v = slice_index (at_ v) 0
+  -- the only position of a public one
+  abbrev position_ : Operand → ℕ
+  position_ v = slice_index (at_ v) 0
 
-  -- what an operator stands for where its operands have the sums at their places
+  -- what an operator stands for where its operands have the sums at their positions
   abbrev pub GivesRight : Op → Type 0
   GivesRight op =
       (tape entries : List ℕ) → length entries ≡ base → AllBelow (size shape.field) entries
@@ -82,29 +82,29 @@ module _ (shape : Shape) (banks : List (List ℕ)) (base : ℕ) (before : List O
   reads-two x y = ap (λ (l : List ℕ). at_ x ++ l) (append-nil (at_ y))
 
   -- a shared operand and a public one
-  reads-public : (x y : Operand) → IsPublicThere shape before y → at_ x ++ (at_ y ++ []) ≡ at_ x ++ place_ y ∷ []
-  reads-public x y there = ap (λ (l : List ℕ). at_ x ++ l) (append-nil (at_ y) ∙ one-place (at_ y) (public-long y there))
+  reads-public : (x y : Operand) → IsPublicThere shape before y → at_ x ++ (at_ y ++ []) ≡ at_ x ++ position_ y ∷ []
+  reads-public x y there = ap (λ (l : List ℕ). at_ x ++ l) (append-nil (at_ y) ∙ one-position (at_ y) (public-long y there))
 
   -- two public ones
-  reads-publics : (x y : Operand) → IsPublicThere shape before x → IsPublicThere shape before y → at_ x ++ (at_ y ++ []) ≡ place_ x ∷ place_ y ∷ []
+  reads-publics : (x y : Operand) → IsPublicThere shape before x → IsPublicThere shape before y → at_ x ++ (at_ y ++ []) ≡ position_ x ∷ position_ y ∷ []
   reads-publics x y first second =
-      ap (λ (l : List ℕ). l ++ (at_ y ++ [])) (one-place (at_ x) (public-long x first))
-      ∙ ap (λ (l : List ℕ). place_ x ∷ l) (append-nil (at_ y) ∙ one-place (at_ y) (public-long y second))
+      ap (λ (l : List ℕ). l ++ (at_ y ++ [])) (one-position (at_ x) (public-long x first))
+      ∙ ap (λ (l : List ℕ). position_ x ∷ l) (append-nil (at_ y) ∙ one-position (at_ y) (public-long y second))
 
   -- one public one
-  reads-one : (x : Operand) → IsPublicThere shape before x → at_ x ++ [] ≡ place_ x ∷ []
-  reads-one x there = append-nil (at_ x) ∙ one-place (at_ x) (public-long x there)
+  reads-one : (x : Operand) → IsPublicThere shape before x → at_ x ++ [] ≡ position_ x ∷ []
+  reads-one x there = append-nil (at_ x) ∙ one-position (at_ x) (public-long x there)
 
-  -- what stands at the place of a public one
-  at-place : (x : Operand) (entries : List ℕ) → IsPublicThere shape before x → slice_index entries (place_ x) ≡ sum_at shape banks entries x
-  at-place x entries there = one-sum (at_ x) entries (public-long x there)
+  -- what stands at the position of a public one
+  at-position : (x : Operand) (entries : List ℕ) → IsPublicThere shape before x → slice_index entries (position_ x) ≡ sum_at shape banks entries x
+  at-position x entries there = one-sum (at_ x) entries (public-long x there)
 
-  -- the place stands before
-  place-below : (x : Operand) → IsPublicThere shape before x → place_ x < base
+  -- the position stands before
+  position-below : (x : Operand) → IsPublicThere shape before x → position_ x < base
   unfolding AllBelow
-  place-below x there = (subst (AllBelow base) (one-place (at_ x) (public-long x there)) (public-below x there)).0
+  position-below x there = (subst (AllBelow base) (one-position (at_ x) (public-long x there)) (public-below x there)).0
 
-  -- a gadget read at these places and not at those
+  -- a gadget read at these positions and not at those
   abbrev GivesAt : List ℕ → Op → (List ℕ → ℕ) → Type 0
   GivesAt from op value =
       (tape entries : List ℕ) → length entries ≡ base → AllBelow (size shape.field) entries
@@ -127,29 +127,29 @@ module _ (shape : Shape) (banks : List (List ℕ)) (base : ℕ) (before : List O
       let end : base + (2 - 2) ≡ base = omega arith in
       subst (λ (from : List ℕ). GivesAt from (PubAdd left right) (λ entries. bit_xor (sum_at shape banks entries left) (sum_at shape banks entries right)))
       (sym (reads-publics left right wired.0 wired.1))
-      (single-right (PubAdd left right) (place_ left ∷ place_ right ∷ []) (instr.Add (place_ left) (place_ right)) _ refl (ap (λ (p : ℕ). p ∷ []) end)
-      (λ word entries. ap (λ (a : ℕ). bit_xor a (slice_index entries (place_ right))) (at-place left entries wired.0) ∙ ap (bit_xor (sum_at shape banks entries left)) (at-place right entries wired.1)))
+      (single-right (PubAdd left right) (position_ left ∷ position_ right ∷ []) (instr.Add (position_ left) (position_ right)) _ refl (ap (λ (p : ℕ). p ∷ []) end)
+      (λ word entries. ap (λ (a : ℕ). bit_xor a (slice_index entries (position_ right))) (at-position left entries wired.0) ∙ ap (bit_xor (sum_at shape banks entries left)) (at-position right entries wired.1)))
   template-right (PubMul left right) wired =
       let end : base + (2 - 2) ≡ base = omega arith in
       subst (λ (from : List ℕ). GivesAt from (PubMul left right) (λ entries. product shape.field (sum_at shape banks entries left) (sum_at shape banks entries right)))
       (sym (reads-publics left right wired.0 wired.1))
-      (single-right (PubMul left right) (place_ left ∷ place_ right ∷ []) (instr.Mul (place_ left) (place_ right)) _ refl (ap (λ (p : ℕ). p ∷ []) end)
-      (λ word entries. ap (λ (a : ℕ). product shape.field a (slice_index entries (place_ right))) (at-place left entries wired.0)
-      ∙ ap (product shape.field (sum_at shape banks entries left)) (at-place right entries wired.1)))
+      (single-right (PubMul left right) (position_ left ∷ position_ right ∷ []) (instr.Mul (position_ left) (position_ right)) _ refl (ap (λ (p : ℕ). p ∷ []) end)
+      (λ word entries. ap (λ (a : ℕ). product shape.field a (slice_index entries (position_ right))) (at-position left entries wired.0)
+      ∙ ap (product shape.field (sum_at shape banks entries left)) (at-position right entries wired.1)))
   template-right (PubSq arg) wired =
       let end : base + (1 - 1) ≡ base = omega arith in
       subst (λ (from : List ℕ). GivesAt from (PubSq arg) (λ entries. square shape.field (sum_at shape banks entries arg))) (sym (reads-one arg wired))
-      (single-right (PubSq arg) (place_ arg ∷ []) (instr.Sq (place_ arg)) _ refl (ap (λ (p : ℕ). p ∷ []) end)
-      (λ word entries. ap (square shape.field) (at-place arg entries wired)))
+      (single-right (PubSq arg) (position_ arg ∷ []) (instr.Sq (position_ arg)) _ refl (ap (λ (p : ℕ). p ∷ []) end)
+      (λ word entries. ap (square shape.field) (at-position arg entries wired)))
   template-right (PubMap k arg) wired =
       let end : base + (1 - 1) ≡ base = omega arith in
       subst (λ (from : List ℕ). GivesAt from (PubMap k arg) (λ entries. image_by shape.maps k (sum_at shape banks entries arg))) (sym (reads-one arg wired.1))
-      (single-right (PubMap k arg) (place_ arg ∷ []) (instr.Map k (place_ arg)) _ refl (ap (λ (p : ℕ). p ∷ []) end)
-      (λ word entries. ap (image_by shape.maps k) (at-place arg entries wired.1)))
+      (single-right (PubMap k arg) (position_ arg ∷ []) (instr.Map k (position_ arg)) _ refl (ap (λ (p : ℕ). p ∷ []) end)
+      (λ word entries. ap (image_by shape.maps k) (at-position arg entries wired.1)))
   template-right (Lift arg) wired =
       subst (λ (from : List ℕ). GivesAt from (Lift arg) (λ entries. sum_at shape banks entries arg)) (sym (reads-one arg wired))
       (λ tape entries len elements.
-      (lift-gives shape.field shape.maps (shape.order + 1) base (place_ arg) (omega arith) (place-below arg wired) tape entries len elements).sum ∙ at-place arg entries wired)
+      (lift-gives shape.field shape.maps (shape.order + 1) base (position_ arg) (omega arith) (position-below arg wired) tape entries len elements).sum ∙ at-position arg entries wired)
   template-right (Add left right) wired =
       subst (λ (from : List ℕ). GivesAt from (Add left right) (λ entries. bit_xor (sum_at shape banks entries left) (sum_at shape banks entries right))) (sym (reads-two left right))
       (λ tape entries len elements.
@@ -159,16 +159,16 @@ module _ (shape : Shape) (banks : List (List ℕ)) (base : ℕ) (before : List O
       subst (λ (from : List ℕ). GivesAt from (AddPub left right) (λ entries. bit_xor (sum_at shape banks entries left) (sum_at shape banks entries right)))
       (sym (reads-public left right wired.1))
       (λ tape entries len elements.
-      (public_addition-gives shape.field shape.maps (shape.order + 1) base (at_ left) (place_ right) (omega arith) (shared-long left wired.0)
-      (shared-below left wired.0) (place-below right wired.1) tape entries len elements).sum
-      ∙ ap (bit_xor (sum_at shape banks entries left)) (at-place right entries wired.1))
+      (public_addition-gives shape.field shape.maps (shape.order + 1) base (at_ left) (position_ right) (omega arith) (shared-long left wired.0)
+      (shared-below left wired.0) (position-below right wired.1) tape entries len elements).sum
+      ∙ ap (bit_xor (sum_at shape banks entries left)) (at-position right entries wired.1))
   template-right (Scale left right) wired =
       subst (λ (from : List ℕ). GivesAt from (Scale left right) (λ entries. product shape.field (sum_at shape banks entries left) (sum_at shape banks entries right)))
       (sym (reads-public left right wired.1))
       (λ tape entries len elements.
-      (scaling-gives shape.field shape.maps (shape.order + 1) base (at_ left) (place_ right) (shared-long left wired.0)
-      (shared-below left wired.0) (place-below right wired.1) tape entries len elements).sum
-      ∙ ap (product shape.field (sum_at shape banks entries left)) (at-place right entries wired.1))
+      (scaling-gives shape.field shape.maps (shape.order + 1) base (at_ left) (position_ right) (shared-long left wired.0)
+      (shared-below left wired.0) (position-below right wired.1) tape entries len elements).sum
+      ∙ ap (product shape.field (sum_at shape banks entries left)) (at-position right entries wired.1))
   template-right (Sq arg) wired =
       subst (λ (from : List ℕ). GivesAt from (Sq arg) (λ entries. square shape.field (sum_at shape banks entries arg))) (sym (append-nil (at_ arg)))
       (λ tape entries len elements.

@@ -18,8 +18,9 @@ use Rattle.mk_ssa.proofs.InOrder.{in_order-at, in_order-take}
 use Rattle.mk_rules.specs.Shape.{Shape}
 use Rattle.mk_rules.specs.Wired.{IsSharedThere, IsWired, Wired}
 use Rattle.mk_rules.proofs.Wired.{wired-at}
-use Rattle.mk_place.specs.Uses.{plain}
-use Rattle.mk_place.specs.Layout.{Marks, own_block, refresh_block, renamed, refreshed, with_operands, blocks_from, laid_out}
+use Rattle.mk_ssa.specs.Operators.{with_operands_by}
+use Rattle.mk_place.specs.Uses.{shape_of_values}
+use Rattle.mk_place.specs.Layout.{Marks, own_block, refresh_block, renamed, refreshed, blocks_from, laid_out}
 use Rattle.mk_place.proofs.Blocks.{own-there, refresh-there}
 use Rattle.mk_place.proofs.Wiring.{wired-value}
 use Rattle.mk_place.proofs.Fitting.{out-there}
@@ -89,26 +90,26 @@ module _ (shape : Shape) (publics secrets : List ℕ) where
 
       module _ (op : Op) (there : slice_get values k ≡ Some op) where
         -- a shared operand, or its refresh
-        fresh-same : (place : ℕ) (v : Operand) → slice_get (shared_operands op) place ≡ Some v → place < 2 → IsSharedThere shape (take k values) v
-            → of_block (refreshed marks k place v) ≡ of_value v
-        fresh-same place v at few held =
-            let w : Operand = slice_index_or (shared_operands op) place (operand.Secret 0) in
-            let is : w ≡ v = get_or_from_slice_get (shared_operands op) place v (operand.Secret 0) at in
-            elim (cases_Bool (marks k place)) [
+        fresh-same : (position : ℕ) (v : Operand) → slice_get (shared_operands op) position ≡ Some v → position < 2 → IsSharedThere shape (take k values) v
+            → of_block (refreshed marks k position v) ≡ of_value v
+        fresh-same position v at few held =
+            let w : Operand = slice_index_or (shared_operands op) position (operand.Secret 0) in
+            let is : w ≡ v = get_or_from_slice_get (shared_operands op) position v (operand.Secret 0) at in
+            elim (cases_Bool (marks k position)) [
               | inl on ↦
-                  ap of_block (cond-true (marks k place) (operand.Block (refresh_block marks k place)) (renamed marks v) on)
-                  ∙ settled (blocks_from marks 0 values) blocks_wired (refresh_block marks k place) (Refresh (renamed marks w))
-                  (refresh-there marks values k place op there few on)
+                  ap of_block (cond-true (marks k position) (operand.Block (refresh_block marks k position)) (renamed marks v) on)
+                  ∙ settled (blocks_from marks 0 values) blocks_wired (refresh_block marks k position) (Refresh (renamed marks w))
+                  (refresh-there marks values k position op there few on)
                   ∙ ap (λ (x : Operand). of_block (renamed marks x)) is
                   ∙ renamed-same v (inl held)
               | inr off ↦
-                  ap of_block (cond-false (marks k place) (operand.Block (refresh_block marks k place)) (renamed marks v) off)
+                  ap of_block (cond-false (marks k position) (operand.Block (refresh_block marks k position)) (renamed marks v) off)
                   ∙ renamed-same v (inl held)
             ]
 
       -- an operator over the new numbers
       laid-same : (op : Op) → slice_get values k ≡ Some op → IsWired shape (take k values) op
-          → value_by shape.field shape.maps of_block (with_operands (refreshed marks k) (renamed marks) op) ≡ value_by shape.field shape.maps of_value op
+          → value_by shape.field shape.maps of_block (with_operands_by (refreshed marks k) (renamed marks) op) ≡ value_by shape.field shape.maps of_value op
       laid-same (Const value) there wired = refl
       laid-same (PubAdd left right) there wired = rw (renamed-same left (inr wired.0), renamed-same right (inr wired.1)) refl
       laid-same (PubMul left right) there wired = rw (renamed-same left (inr wired.0), renamed-same right (inr wired.1)) refl
@@ -134,7 +135,7 @@ module _ (shape : Shape) (publics secrets : List ℕ) where
         let op : Op = get_or values k (Const 0) in
         let there : slice_get values k ≡ Some op = slice_get-get_or values k (Const 0) within in
         let own : AreOwn k = λ j less. own-same n j (omega (arith, less, below)) (omega (arith, less, within)) in
-        settled (blocks_from marks 0 values) blocks_wired (own_block marks k) (with_operands (refreshed marks k) (renamed marks) op) (own-there marks values k op there)
+        settled (blocks_from marks 0 values) blocks_wired (own_block marks k) (with_operands_by (refreshed marks k) (renamed marks) op) (own-there marks values k op there)
         ∙ laid-same k own op there (values_wired k op there)
         ∙ sym (settled values values_wired k op there)
 
@@ -152,10 +153,10 @@ module _ (shape : Shape) (publics secrets : List ℕ) where
     claims-same (v ∷ vs) all = ap₂ (λ (a : ℕ) (as_ : List ℕ). a ∷ as_) (claim-same v all.0) (claims-same vs all.1)
 
 -- the claims stand for what the outputs do
-pub laid-meaning : (s : Values) → IsValues s → (marks : Marks) → Wired (plain s) (laid_out marks s).blocks → (publics secrets : List ℕ)
-    → map (stands_for (plain s) (laid_out marks s).blocks publics secrets) (laid_out marks s).claims ≡ denoted s publics secrets
+pub laid-meaning : (s : Values) → IsValues s → (marks : Marks) → Wired (shape_of_values s) (laid_out marks s).blocks → (publics secrets : List ℕ)
+    → map (stands_for (shape_of_values s) (laid_out marks s).blocks publics secrets) (laid_out marks s).claims ≡ denoted s publics secrets
 laid-meaning s fit marks wired publics secrets =
-    claims-same (plain s) publics secrets marks s.values (λ k op there. wired-value s fit k op there)
-    (λ k op there. wired-at (plain s) [] (blocks_from marks 0 s.values) k op wired there) s.outs
-    (AllByRecursion-weaker (ssa.IsSharedThere (draft s)) (IsSharedThere (plain s) s.values) s.outs (out-there s)
+    claims-same (shape_of_values s) publics secrets marks s.values (λ k op there. wired-value s fit k op there)
+    (λ k op there. wired-at (shape_of_values s) [] (blocks_from marks 0 s.values) k op wired there) s.outs
+    (AllByRecursion-weaker (ssa.IsSharedThere (draft s)) (IsSharedThere (shape_of_values s) s.values) s.outs (out-there s)
     (recursion_from_All (ssa.IsSharedThere (draft s)) s.outs fit.outs))

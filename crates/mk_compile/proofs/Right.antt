@@ -1,4 +1,4 @@
--- In a run of code that is made of wired blocks the places of each value have as sum what the value stands for.
+-- In a run of code that is made of wired blocks the positions of each value have as sum what the value stands for.
 use Rattle.std.proofs.Common.{◌≡◌, ℕ, ◌+◌, ◌*◌, ◌<◌, Bool, true, false, List, [], ◌∷◌, ◌++◌, length, drop, slice_get, Some, IsSomeAnd, ◌⊎◌, sym, ◌∙◌, ap, refl, subst, arith, append_assoc, append-nil, inl, inr}
 use Rattle.std.proofs.lemmas.List.{length-append, length-map, get_or_append_left, get_or_push}
 use Rattle.mk_field.specs.Field.{size}
@@ -111,7 +111,7 @@ module _ (shape : Shape) where
   abbrev pub IsThere : List Op → Operand → Type 0
   IsThere blocks v = IsSharedThere shape blocks v ⊎ IsPublicThere shape blocks v
 
-  -- the sums at the places of the values that are there are what they stand for
+  -- the sums at the positions of the values that are there are what they stand for
   abbrev pub AreRight : List Op → List (List ℕ) → List ℕ → List ℕ → List ℕ → List ℕ → Type 0
   AreRight blocks banks entries publics secrets values =
       (v : Operand) → IsThere blocks v → sum_at shape banks entries v ≡ operand_value publics secrets values v
@@ -181,7 +181,7 @@ module _ (shape : Shape) where
           | inl old ↦
               let number : ℕ = value_number shape v in
               let below : number < inputs + length before = number-below before (op ∷ ops) v old in
-              ap (λ (places : List ℕ). shared_at places after) (bank-before banks outs number (omega (arith, below, banked.count)))
+              ap (λ (positions : List ℕ). shared_at positions after) (bank-before banks outs number (omega (arith, below, banked.count)))
               ∙ ap field_sum (observation-stays entries after (bank banks number) (take-run shape.field shape.maps is tape entries)
               (subst (λ (b : ℕ). AllBelow b (bank banks number)) (sym elements.count) (banked.below number below)))
               ∙ right v old
@@ -192,7 +192,7 @@ module _ (shape : Shape) where
               let public : (w : Operand) → IsPublicThere shape before w → (value_number shape w < inputs + length before) × (known (value_number shape w) ≡ true) =
               public-there shape product_of refresh_of before (op ∷ ops) in
               subst (λ (w : Operand). sum_at shape (banks ++ outs ∷ []) after w ≡ operand_value publics secrets (values ++ x ∷ []) w) (sym last)
-              (ap (λ (places : List ℕ). shared_at places after) (bank-next banks outs (inputs + length before) banked.count)
+              (ap (λ (positions : List ℕ). shared_at positions after) (bank-next banks outs (inputs + length before) banked.count)
               ∙ template-right shape banks base before
               (λ w here. banked.long (value_number shape w) (shared w here).0 ∙ ap (places_of n) (shared w here).1)
               (λ w here. banked.long (value_number shape w) (public w here).0 ∙ ap (places_of n) (public w here).1)

@@ -1,4 +1,4 @@
--- Neighbouring places, and sharings that stand one after the other.
+-- Neighbouring positions, and sharings that stand one after the other.
 use Rattle.std.proofs.Common.{◌≡◌, ℕ, zero, suc, ◌+◌, ◌*◌, ◌<◌, ◌≤◌, List, [], ◌∷◌, ◌++◌, length, map, take, drop, slice_index, refl, sym, ◌∙◌, ap, arith, drop-cons}
 use Rattle.std.specs.List.{range_with_len, flat_map, AllByRecursion}
 use Rattle.std.proofs.lemmas.List.{drop-drop, take-append-drop, get_or_append_left, map-append, length-map, take_at, drop_at}
@@ -7,7 +7,7 @@ use Rattle.mk_code.specs.Counting.{AllBelow}
 use Rattle.mk_code.specs.Private.{observation}
 use Rattle.mk_gadget.specs.Emitted.{shared_at}
 
--- neighbouring places, as a part of the list
+-- neighbouring positions, as a part of the list
 pub observed-window : (a n : ℕ) (entries : List ℕ) → a + n ≤ length entries → observation (range_with_len a n) entries ≡ take n (drop a entries)
 observed-window a zero entries within = refl
 observed-window a (suc n) entries within =
@@ -27,7 +27,7 @@ decoded-at n (suc k) shares (suc c) below =
     decoded-at n k (drop n shares) c (omega arith)
     ∙ ap (λ (xs : List ℕ). field_sum (take n xs)) (drop-drop (c * n) n shares ∙ ap (λ (m : ℕ). drop m shares) e)
 
--- banks of n places one after the other show the sum of each
+-- banks of n positions one after the other show the sum of each
 pub decoded-banks : {X : Type 0} (n : ℕ) (bank : X → List ℕ) (P : X → Type 0) (vs : List X) (entries : List ℕ) → ((v : X) → P v → length (bank v) ≡ n) → AllByRecursion P vs
     → decoded n (length vs) (observation (flat_map bank vs) entries) ≡ map (λ v. shared_at (bank v) entries) vs
 unfolding decoded
@@ -49,9 +49,9 @@ entry-stays entries after p front below =
     ap (λ (l : List ℕ). slice_index l p) (sym (take-append-drop (length entries) after) ∙ ap (λ (l : List ℕ). l ++ drop (length entries) after) front)
     ∙ get_or_append_left entries (drop (length entries) after) 0 p below
 
--- so does what is seen at earlier places
-pub observation-stays : (entries after places : List ℕ) → take (length entries) after ≡ entries → AllBelow (length entries) places
-    → observation places after ≡ observation places entries
+-- so does what is seen at earlier positions
+pub observation-stays : (entries after positions : List ℕ) → take (length entries) after ≡ entries → AllBelow (length entries) positions
+    → observation positions after ≡ observation positions entries
 unfolding AllBelow
 observation-stays entries after [] front below = refl
 observation-stays entries after (p ∷ ps) front below =

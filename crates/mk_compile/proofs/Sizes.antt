@@ -14,7 +14,7 @@ use Rattle.mk_ssa.specs.declared.Op.TheVariants.{Const, PubAdd, PubMul, PubSq, P
 use Rattle.mk_ssa.specs.declared.Operand.{Operand}
 use Rattle.mk_ssa.specs.declared.Operand.TheVariants as operand
 use Rattle.mk_ssa.specs.Kinds.{shared_operands}
-use Rattle.mk_ssa.specs.Operators.{Operator, operator}
+use Rattle.mk_ssa.specs.Operators.{Operator, operator, with_operands_by}
 use Rattle.mk_ssa.specs.Values.{Values}
 use Rattle.mk_simplify.specs.Simplified as simplified_
 use Rattle.mk_unroll.specs.ValueCounts.{is_made, is_lift, is_constant, made, lifts, constants}
@@ -26,10 +26,11 @@ use Rattle.mk_gadget.proofs.RefreshRun.{length-refresh}
 use Rattle.mk_gadget.proofs.ProductRows.{length-product}
 use Rattle.mk_rules.specs.Shape.{Shape}
 use Rattle.mk_rules.specs.Tiles.{value_number}
-use Rattle.mk_place.specs.Uses.{Use, plain, uses}
-use Rattle.mk_place.specs.Layout.{Marks, one, renamed, refreshed, with_operands, refresh_at, blocks_of, blocks_from}
+use Rattle.mk_rules.proofs.Using.{IsUse, use-is}
+use Rattle.mk_rules.specs.Uses.{Use}
+use Rattle.mk_place.specs.Uses.{shape_of_values, uses}
+use Rattle.mk_place.specs.Layout.{Marks, one, renamed, refreshed, refresh_at, blocks_of, blocks_from}
 use Rattle.mk_place.proofs.Fitting.{AreAtUses, one-few}
-use Rattle.mk_place.proofs.Using.{IsUse, use-is}
 use Rattle.mk_compile.specs.Emitting.{blocks_len}
 use Rattle.mk_compile.proofs.Banks.{linear-len}
 
@@ -45,11 +46,11 @@ pub used-there : (s : Values) (marks : Marks) → ((i k : ℕ) → marks i k ≡
 used-there s marks used i k op there on =
     let mark = used i k on in
     let u : Use = mark.0 in
-    let is : IsUse s u = use-is s u mark.1 in
+    let is : IsUse (shape_of_values s) s.values u = use-is (shape_of_values s) s.values u mark.1 in
     let same : is.op ≡ op = same_Some is.op op (sym is.there ∙ ap (slice_get s.values) mark.2 ∙ there) in
     subst (λ (x : Op). IsSome (slice_get (shared_operands x) k)) same
     (subst (λ (j : ℕ). IsSome (slice_get (shared_operands is.op) j)) mark.3
-    (unnumbered (plain s) (shared_operands is.op) u.place u.operand is.operand))
+    (unnumbered (shape_of_values s) (shared_operands is.op) u.place u.operand is.operand))
 
 -- what is marked of a value without shared operands is nothing
 none-marked : (marks : Marks) (i k : ℕ) (op : Op) → shared_operands op ≡ [] → (marks i k ≡ true → IsSome (slice_get (shared_operands op) k)) → one (marks i k) ≡ 0
@@ -78,7 +79,7 @@ module _ (c l m : ℕ) where
       )
 
   -- what blocks count as, where a refresh counts r, and with so many refreshes each value counts at most its weight
-  module _ (f : Op → ℕ) (r : ℕ) (same : (shared : ℕ → Operand → Operand) (public : Operand → Operand) (op : Op) → f (with_operands shared public op) ≡ f op)
+  module _ (f : Op → ℕ) (r : ℕ) (same : (shared : ℕ → Operand → Operand) (public : Operand → Operand) (op : Op) → f (with_operands_by shared public op) ≡ f op)
       (fresh : (v : Operand) → f (Refresh v) ≡ r) (bound : (op : Op) (n : ℕ) → n ≤ 2 → (shared_operands op ≡ [] → n ≡ 0) → f op + n * r ≤ weight op)
       (marks : Marks) where
     -- the refreshes for one use
@@ -98,7 +99,7 @@ module _ (c l m : ℕ) where
     -- the blocks of one value
     value-counts : (i : ℕ) (op : Op) → ((k : ℕ) → marks i k ≡ true → IsSome (slice_get (shared_operands op) k)) → sum_by f (blocks_of marks i op) ≤ weight op
     value-counts i op used =
-        let own : Op = with_operands (refreshed marks i) (renamed marks) op in
+        let own : Op = with_operands_by (refreshed marks i) (renamed marks) op in
         let n : ℕ = one (marks i 0) + one (marks i 1) in
         let few : n ≤ 2 = omega (arith, one-few (marks i 0), one-few (marks i 1)) in
         let none : shared_operands op ≡ [] → n ≡ 0 = λ empty. omega (arith, none-marked marks i 0 op empty (used 0), none-marked marks i 1 op empty (used 1)) in
@@ -171,7 +172,7 @@ abbrev price : ℕ → Op → ℕ
 price n op = length (built_in n op).instrs
 
 -- other operands leave it
-price-same : (n : ℕ) (shared : ℕ → Operand → Operand) (public : Operand → Operand) (op : Op) → price n (with_operands shared public op) ≡ price n op
+price-same : (n : ℕ) (shared : ℕ → Operand → Operand) (public : Operand → Operand) (op : Op) → price n (with_operands_by shared public op) ≡ price n op
 price-same n shared public (Const value) = refl
 price-same n shared public (PubAdd left right) = refl
 price-same n shared public (PubMul left right) = refl

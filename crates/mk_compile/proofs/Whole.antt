@@ -22,7 +22,7 @@ use Rattle.mk_gadget.specs.Refresh.{refresh_gadget}
 use Rattle.mk_gadget.proofs.Ranges.{AllBelow-range}
 use Rattle.mk_rules.specs.Shape.{Shape, shape_of}
 use Rattle.mk_rules.specs.Claimed.{Claimed}
-use Rattle.mk_rules.specs.Tiles.{Tiles, value_number, input_banks, first_place}
+use Rattle.mk_rules.specs.Tiles.{Tiles, value_number, input_banks, first_position}
 use Rattle.mk_rules.specs.Wired.{IsSharedThere, Wired}
 use Rattle.mk_rules.specs.Accepts.{Outputs}
 use Rattle.mk_rules.proofs.Standing.{AreBanks}
@@ -39,21 +39,21 @@ map-each : {X Y : Type 0} (f g : X → Y) (P : X → Type 0) (xs : List X) → (
 map-each f g P [] same all = refl
 map-each f g P (x ∷ xs) same all = ap (λ (y : _). y ∷ map f xs) (same x all.0) ∙ ap (λ (ys : List _). g x ∷ ys) (map-each f g P xs same all.1)
 
--- the sum at one place is what stands there
-one-entry : (bank entries : List ℕ) (place : ℕ) → bank ≡ place ∷ [] → shared_at bank entries ≡ slice_index entries place
+-- the sum at one position is what stands there
+one-entry : (bank entries : List ℕ) (position : ℕ) → bank ≡ position ∷ [] → shared_at bank entries ≡ slice_index entries position
 unfolding field_sum
-one-entry bank entries place is = ap (λ (ps : List ℕ). shared_at ps entries) is ∙ sum-zero_right (slice_index entries place)
+one-entry bank entries position is = ap (λ (ps : List ℕ). shared_at ps entries) is ∙ sum-zero_right (slice_index entries position)
 
 module _ (shape : Shape) where
   -- the banks of the inputs of code that is made of these blocks
-  pub inputs-banked : (blocks : List Op) → AreBanks (shape.order + 1) (known_of shape blocks) (shape.secrets + shape.publics + 0) (first_place shape) (input_banks shape)
+  pub inputs-banked : (blocks : List Op) → AreBanks (shape.order + 1) (known_of shape blocks) (shape.secrets + shape.publics + 0) (first_position shape) (input_banks shape)
   inputs-banked blocks =
       let product = product_gadget (shape.order + 1) in
       let refresh = refresh_gadget (shape.order + 1) in
       let given : AreInputs shape (known_of shape blocks) =
       record { secrets = known-secret shape product refresh blocks; publics = known-public shape product refresh blocks } in
       let none : shape.secrets + shape.publics ≡ shape.secrets + shape.publics + 0 = omega arith in
-      subst (λ (v : ℕ). AreBanks (shape.order + 1) (known_of shape blocks) v (first_place shape) (input_banks shape)) none (input-banks shape (known_of shape blocks) given)
+      subst (λ (v : ℕ). AreBanks (shape.order + 1) (known_of shape blocks) v (first_position shape) (input_banks shape)) none (input-banks shape (known_of shape blocks) given)
 
   -- the sums of the shares of the secrets are the secrets, and the publics stand for themselves
   inputs-right : (publics shares : List ℕ) → length shares ≡ shape.secrets * (shape.order + 1)
@@ -61,9 +61,9 @@ module _ (shape : Shape) where
   inputs-right publics shares long (operand.Secret k) (inl there) =
       let n : ℕ = shape.order + 1 in
       let step : suc k * n ≤ shape.secrets * n = mul-le-mul_right n there in
-      let places : List ℕ = range_with_len (k * n) n in
+      let positions : List ℕ = range_with_len (k * n) n in
       ap (λ (ps : List ℕ). shared_at ps (shares ++ publics)) (secret-bank shape k there)
-      ∙ ap field_sum (observation-stays shares (shares ++ publics) places (take-append_seam shares publics) (AllBelow-range (length shares) (k * n) n (omega (arith, step, long))))
+      ∙ ap field_sum (observation-stays shares (shares ++ publics) positions (take-append_seam shares publics) (AllBelow-range (length shares) (k * n) n (omega (arith, step, long))))
       ∙ ap field_sum (observed-window (k * n) n shares (omega (arith, step, long)))
       ∙ sym (decoded-at n shape.secrets shares k there)
   inputs-right publics shares long (operand.Secret k) (inr there) = absurd there
@@ -71,10 +71,10 @@ module _ (shape : Shape) where
   inputs-right publics shares long (operand.Public k) (inr there) =
       let n : ℕ = shape.order + 1 in
       let end : ℕ = shape.secrets * n in
-      let place : ℕ = end + (shape.secrets + k - shape.secrets) in
-      let back : place - end ≡ k = omega arith in
-      one-entry (slice_index_or (input_banks shape) (shape.secrets + k) []) (shares ++ publics) place (public-bank shape (shape.secrets + k) (omega arith) (omega (arith, there)))
-      ∙ get_or-append_right shares publics end place 0 long (omega arith)
+      let position : ℕ = end + (shape.secrets + k - shape.secrets) in
+      let back : position - end ≡ k = omega arith in
+      one-entry (slice_index_or (input_banks shape) (shape.secrets + k) []) (shares ++ publics) position (public-bank shape (shape.secrets + k) (omega arith) (omega (arith, there)))
+      ∙ get_or-append_right shares publics end position 0 long (omega arith)
       ∙ ap (slice_index publics) back
   inputs-right publics shares long (operand.Block k) (inl there) = absurd there
   inputs-right publics shares long (operand.Block k) (inr there) = absurd there
@@ -87,7 +87,7 @@ module _ (code : Listing) (blocks : List Op) (images : HasElementImages code) (w
       let secrets : List ℕ = decoded (code.order + 1) code.secrets shares in
       subst (λ (is : List Instr). shared_at (slice_index_or (built_banks (shape_of code) blocks) (value_number (shape_of code) v) []) (run code.field code.maps is tape (shares ++ publics))
       ≡ stands_for (shape_of code) blocks publics secrets v) (sym tiles)
-      (right-all (shape_of code) publics secrets images [] blocks (first_place (shape_of code)) (input_banks (shape_of code)) tape (shares ++ publics) [] wired (inputs-banked (shape_of code) blocks)
+      (right-all (shape_of code) publics secrets images [] blocks (first_position (shape_of code)) (input_banks (shape_of code)) tape (shares ++ publics) [] wired (inputs-banked (shape_of code) blocks)
       (Elements-append (size code.field) (code.secrets * (code.order + 1)) code.publics shares publics shares_are publics_are) tape_is.below refl
       (inputs-right (shape_of code) publics shares shares_are.count) v there)
 

@@ -17,9 +17,9 @@ use Rattle.mk_rules.specs.Tiles.{Tiles, value_number}
 use Rattle.mk_rules.specs.Wired.{IsSharedThere, Wired}
 use Rattle.mk_rules.specs.Reaches.{Link, links, Undoubled}
 use Rattle.mk_rules.specs.Accepts.{Outputs, IsAccepted}
-use Rattle.mk_place.specs.Uses.{plain}
+use Rattle.mk_place.specs.Uses.{shape_of_values}
 use Rattle.mk_place.proofs.Fitting.{shared-recoded, wired-recoded}
-use Rattle.mk_compile.specs.Emitting.{bare, code_of}
+use Rattle.mk_compile.specs.Emitting.{shape_from, code_of}
 
 -- two shapes over the same field, inputs and maps
 module _ (a b : Shape) (field : a.field ≡ b.field) (secrets : a.secrets ≡ b.secrets) (publics : a.publics ≡ b.publics) (maps : a.maps ≡ b.maps) where
@@ -55,14 +55,14 @@ module _ (a b : Shape) (field : a.field ≡ b.field) (secrets : a.secrets ≡ b.
 
 -- over parts that are equal blocks are wired
 pub parts-wired : (s : Values) (order : ℕ) (blocks : List Op) (field : FieldId) (secrets publics : ℕ) (maps : List AddMap) → field ≡ s.field → secrets ≡ s.secrets
-    → publics ≡ s.publics → maps ≡ s.maps → Wired (plain s) blocks → Wired (bare field order secrets publics maps) blocks
+    → publics ≡ s.publics → maps ≡ s.maps → Wired (shape_of_values s) blocks → Wired (shape_from field order secrets publics maps) blocks
 parts-wired s order blocks field secrets publics maps first second third fourth wired =
-    rw (first, second, third, fourth) (wired-recoded (plain s) (bare s.field order s.secrets s.publics s.maps) refl refl refl refl [] blocks wired)
+    rw (first, second, third, fourth) (wired-recoded (shape_of_values s) (shape_from s.field order s.secrets s.publics s.maps) refl refl refl refl [] blocks wired)
 
 -- the shape with such parts
-pub parts-bare : (s : Values) (order : ℕ) (field : FieldId) (secrets publics : ℕ) (maps : List AddMap) → field ≡ s.field → secrets ≡ s.secrets
-    → publics ≡ s.publics → maps ≡ s.maps → bare field order secrets publics maps ≡ bare s.field order s.secrets s.publics s.maps
-parts-bare s order field secrets publics maps first second third fourth = rw (first, second, third, fourth) refl
+pub parts-shape : (s : Values) (order : ℕ) (field : FieldId) (secrets publics : ℕ) (maps : List AddMap) → field ≡ s.field → secrets ≡ s.secrets
+    → publics ≡ s.publics → maps ≡ s.maps → shape_from field order secrets publics maps ≡ shape_from s.field order s.secrets s.publics s.maps
+parts-shape s order field secrets publics maps first second third fourth = rw (first, second, third, fourth) refl
 
 -- the code that a certificate stands for is made of its blocks
 code_of-tiles : (shape : Shape) (cert : Claimed)
@@ -75,14 +75,14 @@ code_of-outputs : (shape : Shape) (cert : Claimed) → All (IsSharedThere shape 
 code_of-outputs shape cert there = record { there = there; outs = refl }
 
 -- the code of a certificate over values is accepted
-pub code-accepted : (order : ℕ) (s : Values) (cert : Claimed) → Wired (plain s) cert.blocks → All (IsSharedThere (plain s) cert.blocks) cert.claims
-    → Undoubled (s.secrets + s.publics) (links (plain s) cert.blocks)
-    → IsAccepted (code_of (bare s.field order s.secrets s.publics s.maps) cert) cert
+pub code-accepted : (order : ℕ) (s : Values) (cert : Claimed) → Wired (shape_of_values s) cert.blocks → All (IsSharedThere (shape_of_values s) cert.blocks) cert.claims
+    → Undoubled (s.secrets + s.publics) (links (shape_of_values s) cert.blocks)
+    → IsAccepted (code_of (shape_from s.field order s.secrets s.publics s.maps) cert) cert
 code-accepted order s cert wired there undoubled =
-    let shape : Shape = bare s.field order s.secrets s.publics s.maps in
+    let shape : Shape = shape_from s.field order s.secrets s.publics s.maps in
     record {
-      wired = wired-recoded (plain s) shape refl refl refl refl [] cert.blocks wired;
+      wired = wired-recoded (shape_of_values s) shape refl refl refl refl [] cert.blocks wired;
       tiles = code_of-tiles shape cert;
-      outputs = code_of-outputs shape cert (claims-recoded (plain s) shape refl refl refl refl cert.blocks cert.claims there);
-      undoubled = undoubled-recoded (plain s) shape refl refl refl refl cert.blocks undoubled;
+      outputs = code_of-outputs shape cert (claims-recoded (shape_of_values s) shape refl refl refl refl cert.blocks cert.claims there);
+      undoubled = undoubled-recoded (shape_of_values s) shape refl refl refl refl cert.blocks undoubled;
     }

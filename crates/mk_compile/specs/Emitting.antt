@@ -13,23 +13,23 @@ use Rattle.mk_gadget.specs.Refresh.{refresh_gadget}
 use Rattle.mk_gadget.specs.Template.{built_in}
 use Rattle.mk_rules.specs.Shape.{Shape}
 use Rattle.mk_rules.specs.Claimed.{Claimed}
-use Rattle.mk_rules.specs.Tiles.{laid, input_banks, first_place, value_number}
+use Rattle.mk_rules.specs.Tiles.{laid, input_banks, first_position, value_number}
 use Rattle.mk_compile.specs.RightValues.{built_banks}
 
 -- the shape with these parts
-abbrev pub bare : FieldId → ℕ → ℕ → ℕ → List AddMap → Shape
-bare field order secrets publics maps = record { field = field; order = order; secrets = secrets; publics = publics; maps = maps }
+abbrev pub shape_from : FieldId → ℕ → ℕ → ℕ → List AddMap → Shape
+shape_from field order secrets publics maps = record { field = field; order = order; secrets = secrets; publics = publics; maps = maps }
 
 -- that of a code in the making
-abbrev pub bare_of : FieldId → Draft → Shape
-bare_of field d = bare field d.order d.secrets d.publics d.maps
+abbrev pub draft_shape : FieldId → Draft → Shape
+draft_shape field d = shape_from field d.order d.secrets d.publics d.maps
 
 -- the instructions of blocks over a shape: their templates, one after the other
 abbrev pub instrs_of : Shape → List Op → List Instr
 instrs_of shape blocks =
-    laid shape (product_gadget (shape.order + 1)) (refresh_gadget (shape.order + 1)) (input_banks shape) (first_place shape) blocks
+    laid shape (product_gadget (shape.order + 1)) (refresh_gadget (shape.order + 1)) (input_banks shape) (first_position shape) blocks
 
--- the places of the shares of these values, value by value
+-- the positions of the shares of these values, value by value
 abbrev pub outs_of : Shape → List Op → List Operand → List ℕ
 outs_of shape blocks claims = flat_map (λ v. slice_index_or (built_banks shape blocks) (value_number shape v) []) claims
 

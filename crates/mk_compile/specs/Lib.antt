@@ -1,6 +1,6 @@
 pub mod RightValues
 pub mod Emitting
-pub mod Places
+pub mod Positions
 pub mod Correct
 pub mod MadeFor
 pub mod Compiled

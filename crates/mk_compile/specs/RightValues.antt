@@ -27,7 +27,7 @@ abbrev pub stands_for : Shape → List Op → List ℕ → List ℕ → Operand 
 stands_for shape blocks publics secrets v = operand_value publics secrets (values_of shape.field shape.maps publics secrets blocks) v
 
 -- for all publics, all shares of the secrets, whether or not they come from an encoding, and all tapes the
--- entries at the places of each value have what it stands for as sum, each secret being the sum of its shares
+-- entries at the positions of each value have what it stands for as sum, each secret being the sum of its shares
 abbrev pub ComputesValues : Listing → List Op → Type 0
 ComputesValues code blocks =
     (publics shares tape : List ℕ)

@@ -10,11 +10,11 @@ ghost use Rattle.mk_rules.specs.Accepts.{IsAccepted};
 ghost use Rattle.mk_rules.specs.Pairs.{IsPair};
 ghost use Rattle.mk_rules.specs.Reaches.{Undoubled, links};
 ghost use Rattle.mk_rules.specs.Wired.{IsSharedThere, Wired};
-ghost use Rattle.mk_place.specs.Uses.{plain};
-ghost use Rattle.mk_compile.specs.Emitting.{bare, blocks_len, code_of};
+ghost use Rattle.mk_place.specs.Uses.{shape_of_values};
+ghost use Rattle.mk_compile.specs.Emitting.{shape_from, blocks_len, code_of};
 
 use crate::code::emit_code;
-use crate::places::Inputs;
+use crate::positions::Inputs;
 use mk_base::Memory;
 use mk_rules::{Bundle, Cert};
 use mk_ssa::Ssa;
@@ -25,14 +25,14 @@ pub(crate) fn bundle_of(alloc: Global, order: u8, s: &Ssa, cert: Cert) -> Result
     requires order { (1 ≤ order) × (order ≤ TOP_ORDER) }
     requires inputs { (s.now.secrets ≤ MOST_INPUTS) × (s.now.publics ≤ MOST_INPUTS) }
     requires maps { length s.now.maps ≤ MOST_MAPS }
-    requires wired { Wired (plain s.now) cert.blocks }
-    requires claims { All (IsSharedThere (plain s.now) cert.blocks) cert.claims }
-    requires undoubled { Undoubled (s.now.secrets + s.now.publics) (links (plain s.now) cert.blocks) }
+    requires wired { Wired (shape_of_values s.now) cert.blocks }
+    requires claims { All (IsSharedThere (shape_of_values s.now) cert.blocks) cert.claims }
+    requires undoubled { Undoubled (s.now.secrets + s.now.publics) (links (shape_of_values s.now) cert.blocks) }
     requires few { blocks_len (order + 1) cert.blocks ≤ MOST_INSTRS }
     requires few_blocks { length cert.blocks ≤ MOST_BLOCKS }
     requires few_claims { length cert.claims ≤ MOST_CLAIMS }
     ensures cert { IfOk result (λ b. b.cert ≡ cert) }
-    ensures code { IfOk result (λ b. b.code ≡ code_of (bare s.now.field order s.now.secrets s.now.publics s.now.maps) cert) }
+    ensures code { IfOk result (λ b. b.code ≡ code_of (shape_from s.now.field order s.now.secrets s.now.publics s.now.maps) cert) }
     ensures images { IfOk result (λ b. HasElementImages b.code) }
     ensures accepted { IfOk result (λ b. IsAccepted b.code b.cert) }
     ensures private { IfOk result (λ b. Private b.code) }

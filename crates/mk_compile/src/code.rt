@@ -7,11 +7,11 @@ ghost use Rattle.mk_base.specs.declared.TheConstants.{TOP_ORDER};
 ghost use Rattle.mk_code.specs.declared.TheConstants.{MOST_INPUTS, MOST_MAPS, MOST_INSTRS};
 ghost use Rattle.mk_field.specs.Field.{HasMapsOnlyInBytes};
 ghost use Rattle.mk_rules.specs.Wired.{IsSharedThere, Wired};
-ghost use Rattle.mk_compile.specs.Emitting.{bare, blocks_len, code_of};
-ghost use Rattle.mk_compile.specs.Places.{IsSharedAt, bank_of};
+ghost use Rattle.mk_compile.specs.Emitting.{shape_from, blocks_len, code_of};
+ghost use Rattle.mk_compile.specs.Positions.{IsSharedAt, bank_of};
 
 use crate::emit::emit_blocks;
-use crate::places::{Inputs, Place, shared_bank};
+use crate::positions::{Inputs, Position, shared_bank};
 use mk_base::{Items, Memory};
 use mk_code::{Code, CodeBuilder, MapList, PositionList};
 use mk_field::{Field, FieldId, Gf2, Gf256};
@@ -20,18 +20,18 @@ use mk_share::with_order;
 use mk_ssa::Operand;
 use std::alloc::Global;
 
-/// The places of the shares of these values, value by value.
+/// The positions of the shares of these values, value by value.
 fn outs<const N: usize>(
     alloc: Global,
     inputs: Inputs,
-    blocks: &[Place<N>],
+    blocks: &[Position<N>],
     claims: &[Operand],
 ) -> Result<PositionList, Memory>
     requires shares { N ≤ TOP_ORDER + 1 }
     requires few { inputs.secrets ≤ MOST_INPUTS }
     requires there { All (IsSharedAt inputs.secrets blocks.now) claims.now }
     requires few_claims { length claims.now ≤ MOST_CLAIMS }
-    ensures places { IfOk result (λ outs. outs ≡ flat_map (bank_of inputs.secrets blocks.now) claims.now) }
+    ensures positions { IfOk result (λ outs. outs ≡ flat_map (bank_of inputs.secrets blocks.now) claims.now) }
     ensures count { IfOk result (λ outs. length outs ≡ length claims.now * N) }
 {
     let mut outs = Vec::new(alloc);
@@ -54,15 +54,20 @@ fn code_with<F: Field, const N: usize>(
     requires inputs { (inputs.secrets ≤ MOST_INPUTS) × (inputs.publics ≤ MOST_INPUTS) }
     requires maps { length maps ≤ MOST_MAPS }
     requires bytes { HasMapsOnlyInBytes F.ID maps }
-    requires wired { Wired (bare F.ID order inputs.secrets inputs.publics maps) cert.now.blocks }
-    requires claims { All (IsSharedThere (bare F.ID order inputs.secrets inputs.publics maps) cert.now.blocks) cert.now.claims }
+    requires wired { Wired (shape_from F.ID order inputs.secrets inputs.publics maps) cert.now.blocks }
+    requires claims { All (IsSharedThere (shape_from F.ID order inputs.secrets inputs.publics maps) cert.now.blocks) cert.now.claims }
     requires few { blocks_len N cert.now.blocks ≤ MOST_INSTRS }
     requires few_claims { length cert.now.claims ≤ MOST_CLAIMS }
-    ensures { IfOk result (λ code. code ≡ code_of (bare F.ID order inputs.secrets inputs.publics maps) cert.now) }
+    ensures { IfOk result (λ code. code ≡ code_of (shape_from F.ID order inputs.secrets inputs.publics maps) cert.now) }
 {
     let mut builder = CodeBuilder::<F>::new(alloc, order, inputs.secrets, inputs.publics, maps);
-    let places = emit_blocks::<F, N>(alloc, &mut builder, inputs, cert.blocks().as_slice())?;
-    let outs = outs::<N>(alloc, inputs, places.as_slice(), cert.claims().as_slice())?;
+    let positions = emit_blocks::<F, N>(alloc, &mut builder, inputs, cert.blocks().as_slice())?;
+    let outs = outs::<N>(
+        alloc,
+        inputs,
+        positions.as_slice(),
+        cert.claims().as_slice(),
+    )?;
     Ok(builder.finish(outs))
 }
 
@@ -80,11 +85,11 @@ pub(crate) fn emit_code(
     requires inputs { (inputs.secrets ≤ MOST_INPUTS) × (inputs.publics ≤ MOST_INPUTS) }
     requires maps { length maps ≤ MOST_MAPS }
     requires bytes { HasMapsOnlyInBytes field maps }
-    requires wired { Wired (bare field order inputs.secrets inputs.publics maps) cert.now.blocks }
-    requires claims { All (IsSharedThere (bare field order inputs.secrets inputs.publics maps) cert.now.blocks) cert.now.claims }
+    requires wired { Wired (shape_from field order inputs.secrets inputs.publics maps) cert.now.blocks }
+    requires claims { All (IsSharedThere (shape_from field order inputs.secrets inputs.publics maps) cert.now.blocks) cert.now.claims }
     requires few { blocks_len (order + 1) cert.now.blocks ≤ MOST_INSTRS }
     requires few_claims { length cert.now.claims ≤ MOST_CLAIMS }
-    ensures { IfOk result (λ code. code ≡ code_of (bare field order inputs.secrets inputs.publics maps) cert.now) }
+    ensures { IfOk result (λ code. code ≡ code_of (shape_from field order inputs.secrets inputs.publics maps) cert.now) }
 {
     match field {
         FieldId::Gf2 => with_order!(order, code_with::<Gf2>(alloc, order, inputs, maps, cert)),

@@ -6,7 +6,7 @@ mod bundle;
 mod code;
 mod emit;
 mod laws;
-mod places;
+mod positions;
 mod program;
 
 pub use laws::{correct_law, values_law};

@@ -1,6 +1,6 @@
 -- The two fields, after FIPS 197 section 4: elements are numbers below the size, and the sum in both
 -- is exclusive or, `bit_xor`.
-use Rattle.std.specs.Prelude.{◌≡◌, ℕ, zero, suc, ◌*◌, ◌^◌, ◌/◌, ◌%◌, Bool, true, false, if◌then◌else◌, nat_lt, nat_eq, List, [], bit_and, bit_xor, slice_index, refl}
+use Rattle.std.specs.Prelude.{◌≡◌, ℕ, zero, suc, ◌*◌, ◌^◌, ◌/◌, ◌%◌, Bool, true, false, if◌then◌else◌, nat_lt, nat_eq, List, [], bit_and, bit_xor, slice_index, slice_index_or, refl}
 use Rattle.mk_field.specs.declared.field.FieldId.{FieldId}
 use Rattle.mk_field.specs.declared.field.FieldId.TheVariants.{Gf2, Gf256}
 use Rattle.mk_field.specs.declared.map.AddMap.{AddMap}
@@ -44,6 +44,10 @@ square field a = product field a a
 -- the image of a byte under an additive map: the sum of the images of its set bits
 abbrev pub image : AddMap → ℕ → ℕ
 image m a = sum_bits 8 (λ i. slice_index m.images i) a
+
+-- the image of a byte under the map of this number; there is one where values or code fit together
+abbrev pub image_by : List AddMap → ℕ → ℕ → ℕ
+image_by maps m a = image (slice_index_or maps m (record { images = [] })) a
 
 -- whether there are additive maps on the field's elements: on bytes alone
 unfoldable pub has_maps : FieldId → Bool

@@ -18,7 +18,7 @@ length-blocks f w e [] each = omega arith
 length-blocks f w e (x ∷ xs) each =
     omega (arith, length-append (f x) (flat_map f xs), each 0 (omega arith), length-blocks f w e xs (λ k below. each (suc k) (omega (arith, below))))
 
--- what stands at place t of block k
+-- what stands at position t of block k
 pub blocks-at : {X A : Type 0} (f : X → List A) (w : ℕ) (e : X) (d : A) (xs : List X) (k t : ℕ) → ((k : ℕ) → k < length xs → length (f (get_or xs k e)) ≡ w)
     → k < length xs → t < w → get_or (flat_map f xs) (w * k + t) d ≡ get_or (f (get_or xs k e)) t d
 blocks-at f w e d [] k t each below within = absurd (omega (arith, below))
@@ -42,12 +42,12 @@ pub map-blocks-more : {X A B : Type 0} (g : A → B) (f : X → List A) (xs : Li
 map-blocks-more g f xs x = ap (map g) (blocks-more f xs x) ∙ map-append g (flat_map f xs) (f x)
 
 -- what stands before
-pub old : (entries more : List ℕ) (place : ℕ) → place < length entries → slice_index (entries ++ more) place ≡ slice_index entries place
-old entries more place within = get_or_append_left entries more 0 place within
+pub old : (entries more : List ℕ) (position : ℕ) → position < length entries → slice_index (entries ++ more) position ≡ slice_index entries position
+old entries more position within = get_or_append_left entries more 0 position within
 
 -- what stands behind
-pub own : (entries more : List ℕ) (place at : ℕ) → place ≡ length entries + at → slice_index (entries ++ more) place ≡ slice_index more at
-own entries more place at e = ap (slice_index (entries ++ more)) e ∙ get_or-append-add entries more at 0
+pub own : (entries more : List ℕ) (position at : ℕ) → position ≡ length entries + at → slice_index (entries ++ more) position ≡ slice_index more at
+own entries more position at e = ap (slice_index (entries ++ more)) e ∙ get_or-append-add entries more at 0
 
 -- the next instruction
 pub run-next : (field : FieldId) (maps : List AddMap) (i : Instr) (is : List Instr) (tape entries more : List ℕ) (value : ℕ)

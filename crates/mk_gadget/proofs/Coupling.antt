@@ -64,14 +64,14 @@ view-same base gadget probes outs u v inside shown =
     map-same (λ o. slice_index (observation gadget.outs u) o) (λ o. slice_index (observation gadget.outs v) o) outs shown in
     cc
 
--- a share of an out bank of n shares stands where its place says
-pub out-at : (place : ℕ → ℕ) (n o : ℕ) (entries : List ℕ) → o < n
-    → slice_index (observation (map place (range_with_len 0 n)) entries) o ≡ slice_index entries (place o)
-out-at place n o entries below =
-    ap (λ (xs : List ℕ). slice_index xs o) (map-map (λ p. slice_index entries p) place (range_with_len 0 n))
-    ∙ get_or-map-range_with_len (λ i. slice_index entries (place i)) 0 n o o 0 below (omega arith)
+-- a share of an out bank of n shares stands where its position says
+pub out-at : (position : ℕ → ℕ) (n o : ℕ) (entries : List ℕ) → o < n
+    → slice_index (observation (map position (range_with_len 0 n)) entries) o ≡ slice_index entries (position o)
+out-at position n o entries below =
+    ap (λ (xs : List ℕ). slice_index xs o) (map-map (λ p. slice_index entries p) position (range_with_len 0 n))
+    ∙ get_or-map-range_with_len (λ i. slice_index entries (position i)) 0 n o o 0 below (omega arith)
 
--- two lists added, place by place
+-- two lists added, position by position
 pub slice_index-added : (xs ys : List ℕ) (k : ℕ) → slice_index (added xs ys) k ≡ bit_xor (slice_index xs k) (slice_index ys k)
 unfolding added
 slice_index-added [] ys k = sym (sum-zero_left (slice_index ys k))

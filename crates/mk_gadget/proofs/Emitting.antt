@@ -1,4 +1,4 @@
--- A gadget in the making: the instructions of the shares so far, and the places of their values.
+-- A gadget in the making: the instructions of the shares so far, and the positions of their values.
 use Rattle.std.proofs.Common.{arith, ◌≡◌, ℕ, ◌+◌, ◌-◌, ◌<◌, ◌≤◌, List, [], ◌∷◌, ◌++◌, length, map, take, slice_set, refl, sym, ◌∙◌, ap, subst, append_assoc}
 use Rattle.std.specs.List.{range_with_len}
 use Rattle.std.proofs.lemmas.List.{length-append, append-nil, take_more_set, length-set, take_all}
@@ -16,7 +16,7 @@ use Rattle.mk_gadget.proofs.Rows.{FitsAt-later}
 pub record Emitting (old now : Draft) (row : ℕ → Instr) (n share : ℕ) (regs : List ℕ) : Type 0 where
   pub code : now ≡ record old { instrs = old.instrs ++ map row (range_with_len 0 share); spare = now.spare }
   pub room : n ≤ now.spare + share
-  pub places : take share regs ≡ range_with_len (draft_len old) share
+  pub positions : take share regs ≡ range_with_len (draft_len old) share
   pub count : length regs ≡ n
 
 -- room was reserved
@@ -26,7 +26,7 @@ Emitting-start old now row n regs same room count =
     record {
       code = same ∙ ap (λ (is : List Instr). record old { instrs = is; spare = now.spare }) (sym (append-nil old.instrs));
       room = omega (arith, room);
-      places = refl;
+      positions = refl;
       count = count;
     }
 
@@ -59,14 +59,14 @@ Emitting-fits field old now row n share regs i so fits =
     (FitsAt-later field (length old.maps) (draft_len old) (draft_len now) i (omega (arith, len)) fits)
 
 -- one more share
-pub Emitting-more : (old now next : Draft) (row : ℕ → Instr) (n share : ℕ) (regs : List ℕ) (place : ℕ) → Emitting old now row n share regs
-    → share < n → next ≡ record now { instrs = now.instrs ++ row share ∷ []; spare = now.spare - 1 } → place ≡ draft_len now
-    → Emitting old next row n (share + 1) (slice_set regs share place)
-Emitting-more old now next row n share regs place so below pushed here =
+pub Emitting-more : (old now next : Draft) (row : ℕ → Instr) (n share : ℕ) (regs : List ℕ) (position : ℕ) → Emitting old now row n share regs
+    → share < n → next ≡ record now { instrs = now.instrs ++ row share ∷ []; spare = now.spare - 1 } → position ≡ draft_len now
+    → Emitting old next row n (share + 1) (slice_set regs share position)
+Emitting-more old now next row n share regs position so below pushed here =
     let rows : ℕ → List Instr = λ k. map row (range_with_len 0 k) in
     let more : rows (share + 1) ≡ rows share ++ row share ∷ [] = map-range_with_len_more row 0 share share (omega arith) in
     let spare : next.spare ≡ now.spare - 1 = ap (λ (d : Draft). d.spare) pushed in
-    let at : place ≡ draft_len old + share = here ∙ Emitting-len old now row n share regs so in
+    let at : position ≡ draft_len old + share = here ∙ Emitting-len old now row n share regs so in
     record {
       code = pushed
           ∙ ap (λ (d : Draft). record d { instrs = d.instrs ++ row share ∷ []; spare = now.spare - 1 }) so.code
@@ -74,11 +74,11 @@ Emitting-more old now next row n share regs place so below pushed here =
           (append_assoc old.instrs (rows share) (row share ∷ []) ∙ ap (λ (is : List Instr). old.instrs ++ is) (sym more))
           ∙ ap (λ (k : ℕ). record old { instrs = old.instrs ++ rows (share + 1); spare = k }) (sym spare);
       room = omega (arith, so.room, spare, below);
-      places = take_more_set regs share place (omega (arith, below, so.count))
-          ∙ ap (λ (ps : List ℕ). ps ++ place ∷ []) so.places
+      positions = take_more_set regs share position (omega (arith, below, so.count))
+          ∙ ap (λ (ps : List ℕ). ps ++ position ∷ []) so.positions
           ∙ ap (λ (p : ℕ). range_with_len (draft_len old) share ++ p ∷ []) at
           ∙ sym (range-more (draft_len old) share);
-      count = length-set regs share place ∙ so.count;
+      count = length-set regs share position ∙ so.count;
     }
 
 -- all shares have theirs
@@ -93,5 +93,5 @@ Emitting-all old now row n share regs reads gadget so all rows outs =
       code = so.code
           ∙ ap (λ (k : ℕ). record old { instrs = old.instrs ++ map row (range_with_len 0 k); spare = now.spare }) all
           ∙ ap (λ (is : List Instr). record old { instrs = old.instrs ++ is; spare = now.spare }) (sym rows);
-      outs = whole ∙ so.places ∙ ap (λ (k : ℕ). range_with_len (draft_len old) k) all ∙ sym outs;
+      outs = whole ∙ so.positions ∙ ap (λ (k : ℕ). range_with_len (draft_len old) k) all ∙ sym outs;
     }

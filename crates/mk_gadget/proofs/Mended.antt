@@ -105,7 +105,7 @@ share_sum-in_field field a cell i (suc m) start cells =
       | inr other ↦ omega (arith, sum-in_field field (share_sum a cell i m) (cell m) before (cells m), share_sum-other a cell i m other)
     ]
 
--- what stands at a place of a list of elements, or behind it, is an element
+-- what stands at a position of a list of elements, or behind it, is an element
 pub element-at : (field : FieldId) (xs : List ℕ) (i : ℕ) → AllBelow (size field) xs → slice_index xs i < size field
 unfolding AllBelow
 element-at field [] i below = zero-element field

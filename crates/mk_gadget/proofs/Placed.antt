@@ -4,11 +4,11 @@ use Rattle.std.proofs.lemmas.Bool.{cases_lt, lt-ltb}
 use Rattle.std.proofs.lemmas.List.{length-append, length-map, get_or_append_left, get_or_push}
 use Rattle.mk_field.specs.declared.field.FieldId.{FieldId}
 use Rattle.mk_field.specs.declared.map.AddMap.{AddMap}
-use Rattle.mk_field.specs.Field.{size, product, square}
+use Rattle.mk_field.specs.Field.{size, product, square, image_by}
 use Rattle.mk_code.specs.declared.instr.Instr.{Instr}
 use Rattle.mk_code.specs.declared.instr.Instr.TheVariants.{Rnd, Const, Copy, Add, Mul, Sq, Map}
 use Rattle.mk_code.specs.Listing.{FitsAt, AllFit}
-use Rattle.mk_code.specs.Trace.{run, randoms, takes, entry, image_by}
+use Rattle.mk_code.specs.Trace.{run, randoms, takes, entry}
 use Rattle.mk_code.specs.Counting.{total, one_if_equal, AllBelow}
 use Rattle.mk_code.specs.Private.{observation}
 use Rattle.mk_code.proofs.Totals.{total-same}
@@ -52,13 +52,13 @@ entry-moved field maps count to (Mul left right) word u v fits at =
 entry-moved field maps count to (Sq from) word u v fits at = ap (square field) (at from fits)
 entry-moved field maps count to (Map map from) word u v fits at = ap (image_by maps map) (at from fits.1)
 
--- v has at the placed places what u has at the gadget's
+-- v has at the placed positions what u has at the gadget's
 record Follows (reads : List ℕ) (base : ℕ) (u v : List ℕ) : Type 0 where
   long : length reads ≤ length u
   count : length v + length reads ≡ base + length u
   at : (q : ℕ) → q < length u → slice_index v (placement reads base q) ≡ slice_index u q
 
--- the gadget's places stand among the entries so far
+-- the gadget's positions stand among the entries so far
 placement-inside : (reads : List ℕ) (base q : ℕ) (u v : List ℕ) → AllBelow base reads → Follows reads base u v → q < length u
     → placement reads base q < length v
 placement-inside reads base q u v below so inside = elim (cases_lt q (length reads)) [
@@ -84,8 +84,8 @@ Follows-push reads base a b u v below so same =
             ∙ sym (get_or_append_left u (a ∷ []) 0 q before)
         | inr last ↦
             let end : q ≡ length u = omega (arith, inside, left, last) in
-            let place : placement reads base q ≡ length v = omega (arith, placement-own reads base q (omega (arith, so.long, last)), so.count, so.long, end) in
-            get_or_push v b 0 (placement reads base q) (sym place) ∙ same ∙ sym (get_or_push u a 0 q (sym end))
+            let position : placement reads base q ≡ length v = omega (arith, placement-own reads base q (omega (arith, so.long, last)), so.count, so.long, end) in
+            get_or_push v b 0 (placement reads base q) (sym position) ∙ same ∙ sym (get_or_push u a 0 q (sym end))
       ];
     }
 
@@ -115,42 +115,42 @@ Follows-start reads entries =
       count = omega (arith, same);
       at = λ q inside.
           let operand : q < length reads = omega (arith, inside, same) in
-          let place : placement reads (length entries) q ≡ slice_index reads q = rw (lt-ltb q (length reads) operand) refl in
-          ap (slice_index entries) place ∙ sym (observation-at reads entries q operand);
+          let position : placement reads (length entries) q ≡ slice_index reads q = rw (lt-ltb q (length reads) operand) refl in
+          ap (slice_index entries) position ∙ sym (observation-at reads entries q operand);
     }
 
--- the entry at a placed place is that of the gadget alone
-placed-entry : (field : FieldId) (maps : List AddMap) (gadget : Gadget) (count place : ℕ) (reads tape entries : List ℕ)
-    → AllBelow (length entries) reads → AllFit field count (length reads) gadget.instrs → place < length reads + length gadget.instrs
-    → slice_index (run field maps (placed reads (length entries) gadget) tape entries) (placement reads (length entries) place)
-    ≡ slice_index (run field maps gadget.instrs tape (observation reads entries)) place
-placed-entry field maps gadget count place reads tape entries below fit inside =
+-- the entry at a placed position is that of the gadget alone
+placed-entry : (field : FieldId) (maps : List AddMap) (gadget : Gadget) (count position : ℕ) (reads tape entries : List ℕ)
+    → AllBelow (length entries) reads → AllFit field count (length reads) gadget.instrs → position < length reads + length gadget.instrs
+    → slice_index (run field maps (placed reads (length entries) gadget) tape entries) (placement reads (length entries) position)
+    ≡ slice_index (run field maps gadget.instrs tape (observation reads entries)) position
+placed-entry field maps gadget count position reads tape entries below fit inside =
     let state : List ℕ = observation reads entries in
     let same : length state ≡ length reads = length-observation reads entries in
     let so : Follows reads (length entries) (run field maps gadget.instrs tape state) (run field maps (placed reads (length entries) gadget) tape entries) =
     run-follows field maps count reads (length entries) gadget.instrs tape state entries below
     (subst (λ (n : ℕ). AllFit field count n gadget.instrs) (sym same) fit) (Follows-start reads entries) in
-    so.at place (omega (arith, inside, same, length-run field maps gadget.instrs tape state))
+    so.at position (omega (arith, inside, same, length-run field maps gadget.instrs tape state))
 
 -- what is seen of probed instructions
 probes-placed : (reads : List ℕ) (base len : ℕ) (after alone probes : List ℕ) → AllBelow len probes
-    → ((place : ℕ) → place < length reads + len → slice_index after (placement reads base place) ≡ slice_index alone place)
+    → ((position : ℕ) → position < length reads + len → slice_index after (placement reads base position) ≡ slice_index alone position)
     → observation (map (λ k. base + k) probes) after ≡ observation (map (λ k. length reads + k) probes) alone
 unfolding AllBelow
 probes-placed reads base len after alone [] below at = refl
 probes-placed reads base len after alone (k ∷ ks) below at =
-    let place : placement reads base (length reads + k) ≡ base + k =
+    let position : placement reads base (length reads + k) ≡ base + k =
     placement-own reads base (length reads + k) (omega arith) ∙ ap (λ (n : ℕ). base + n) (omega arith) in
     let here : slice_index after (base + k) ≡ slice_index alone (length reads + k) =
-    ap (slice_index after) (sym place) ∙ at (length reads + k) (omega (arith, below.0)) in
+    ap (slice_index after) (sym position) ∙ at (length reads + k) (omega (arith, below.0)) in
     let rest : observation (map (λ k. base + k) ks) after ≡ observation (map (λ k. length reads + k) ks) alone =
     probes-placed reads base len after alone ks below.1 at in
     cc
 
 -- what is seen of the out bank
-outs-placed : (to : ℕ → ℕ) (len : ℕ) (after alone places : List ℕ) → AllBelow len places
-    → ((place : ℕ) → place < len → slice_index after (to place) ≡ slice_index alone place)
-    → observation (map to places) after ≡ observation places alone
+outs-placed : (to : ℕ → ℕ) (len : ℕ) (after alone positions : List ℕ) → AllBelow len positions
+    → ((position : ℕ) → position < len → slice_index after (to position) ≡ slice_index alone position)
+    → observation (map to positions) after ≡ observation positions alone
 unfolding AllBelow
 outs-placed to len after alone [] below at = refl
 outs-placed to len after alone (p ∷ ps) below at =
@@ -167,8 +167,8 @@ placed-seen : (field : FieldId) (maps : List AddMap) (gadget : Gadget) (count : 
 placed-seen field maps gadget count reads tape entries probes outs below fit within bank =
     let after : List ℕ = run field maps (placed reads (length entries) gadget) tape entries in
     let alone : List ℕ = run field maps gadget.instrs tape (observation reads entries) in
-    let at : (place : ℕ) → place < length reads + length gadget.instrs → slice_index after (placement reads (length entries) place) ≡ slice_index alone place =
-    λ place inside. placed-entry field maps gadget count place reads tape entries below fit inside in
+    let at : (position : ℕ) → position < length reads + length gadget.instrs → slice_index after (placement reads (length entries) position) ≡ slice_index alone position =
+    λ position inside. placed-entry field maps gadget count position reads tape entries below fit inside in
     ap (λ (seen : List ℕ). seen ++ observation outs (observation (placed_outs reads (length entries) gadget) after))
     (probes-placed reads (length entries) (length gadget.instrs) after alone probes within at)
     ∙ ap (λ (shares : List ℕ). observation (map (λ k. length reads + k) probes) alone ++ observation outs shares)

@@ -13,7 +13,7 @@ use Rattle.mk_gadget.proofs.Ranges.{placement-own}
 use Rattle.mk_code.proofs.Steps.{AllBelow-at}
 use Rattle.mk_gadget.proofs.Pairs.{twice-pairs}
 
--- these instructions, with their places moved, are appended, and there is room for `total` in all
+-- these instructions, with their positions moved, are appended, and there is room for `total` in all
 pub record Placing (old now : Draft) (to : ℕ → ℕ) (instrs : List Instr) (total : ℕ) : Type 0 where
   pub code : now ≡ record old { instrs = old.instrs ++ map (moved to) instrs; spare = now.spare }
   pub room : total ≤ now.spare + length instrs
@@ -67,18 +67,18 @@ pub Placing-all : (old now : Draft) (reads bank : List ℕ) (gadget : Gadget) (t
     → bank ≡ placed_outs reads (draft_len old) gadget → Emitted old now reads gadget bank
 Placing-all old now reads bank gadget total so outs = record { code = so.code; outs = outs }
 
--- the place of the next instruction
-pub placement-next : (reads : List ℕ) (base place k : ℕ) → place ≡ length reads + k → placement reads base place ≡ base + k
-placement-next reads base place k e =
-    placement-own reads base place (omega (arith, e)) ∙ ap (λ (j : ℕ). base + j) (omega (arith, e))
+-- the position of the next instruction
+pub placement-next : (reads : List ℕ) (base position k : ℕ) → position ≡ length reads + k → placement reads base position ≡ base + k
+placement-next reads base position k e =
+    placement-own reads base position (omega (arith, e)) ∙ ap (λ (j : ℕ). base + j) (omega (arith, e))
 
 -- what a gadget reads stands before
-pub placement-below : (reads : List ℕ) (base place k : ℕ) → AllBelow base reads → place < length reads + k → placement reads base place < base + k
-placement-below reads base place k below within = elim (cases_lt place (length reads)) [
+pub placement-below : (reads : List ℕ) (base position k : ℕ) → AllBelow base reads → position < length reads + k → placement reads base position < base + k
+placement-below reads base position k below within = elim (cases_lt position (length reads)) [
   | inl operand ↦
-      let at : placement reads base place ≡ slice_index reads place = rw (lt-ltb place (length reads) operand) refl in
-      omega (arith, at, AllBelow-at base reads place below operand)
-  | inr behind ↦ omega (arith, placement-own reads base place behind, within)
+      let at : placement reads base position ≡ slice_index reads position = rw (lt-ltb position (length reads) operand) refl in
+      omega (arith, at, AllBelow-at base reads position below operand)
+  | inr behind ↦ omega (arith, placement-own reads base position behind, within)
 ]
 
 -- where the pairs fit into a code, there are few shares

@@ -11,16 +11,16 @@ use Rattle.mk_code.specs.Draft.{Draft, draft_len}
 use Rattle.mk_gadget.specs.Gadget.{placement, moved}
 use Rattle.mk_gadget.specs.Emitted.{Emitted}
 use Rattle.mk_gadget.specs.Pairs.{Pair, pairs_upto, pairs, pair_number, others}
-use Rattle.mk_gadget.specs.Product.{pair_place, cell_place, row_place, sum_place, product_pair, product_row, product_gadget}
+use Rattle.mk_gadget.specs.Product.{pair_position, cell_position, row_position, sum_position, product_pair, product_row, product_gadget}
 use Rattle.mk_gadget.proofs.Ranges.{map-map-range, placement-left, placement-right}
 use Rattle.mk_gadget.proofs.Values.{two-banks}
 use Rattle.mk_gadget.proofs.Pairs.{pair, pairs_before, length-pairs_before, pairs_before-none, pairs_before-more, pairs_before-all, pair_number-below, others-same, others-other, length-others_low, length-others_high}
 use Rattle.mk_gadget.proofs.Blocks.{length-blocks, blocks-more}
-use Rattle.mk_gadget.proofs.ProductRun.{cell_place-later, cell_place-earlier}
+use Rattle.mk_gadget.proofs.ProductRun.{cell_position-later, cell_position-earlier}
 use Rattle.mk_gadget.proofs.ProductRows.{range-last, row_sum, length-product_rows, length-product}
 use Rattle.mk_gadget.proofs.Placing.{Placing, Placing-start, Placing-length, Placing-len, pushed-numbers, Placing-push, Placing-same, Placing-all, placement-next}
 
--- where a place of the product stands in the code
+-- where a position of the product stands in the code
 abbrev pub product_to : Draft → List ℕ → List ℕ → ℕ → ℕ
 product_to old xs ys = placement (xs ++ ys) (draft_len old)
 
@@ -100,44 +100,44 @@ Crossing-more old now one two three four five xs ys n i j random first half seco
     let total : ℕ = product_total n in
     let low : i < n = omega (arith, less, high) in
     let done : List Pair = pairs_before n i (j - (i + 1)) in
-    let place : ℕ = pair_place n i j in
+    let position : ℕ = pair_position n i j in
     let k : ℕ = 5 * pair_number n i j in
     let i0 : List Instr = flat_map (product_pair n) done in
     let n0 : length i0 ≡ k = length-crosses n i j less in
     let number : pair_number n i j < length (pairs n) = pair_number-below n n i j low less high in
     let len : draft_len now ≡ base + k = Crossing-len old now xs ys n i j so less in
     let count : length (xs ++ ys) ≡ 2 * n = two-banks xs ys n left right in
-    let at : (t : ℕ) → to (place + t) ≡ base + (k + t) = λ t. placement-next (xs ++ ys) base (place + t) (k + t) (omega (arith, count)) in
-    let zeroth : place ≡ place + 0 = omega arith in
+    let at : (t : ℕ) → to (position + t) ≡ base + (k + t) = λ t. placement-next (xs ++ ys) base (position + t) (k + t) (omega (arith, count)) in
+    let zeroth : position ≡ position + 0 = omega arith in
     let len1 : draft_len one ≡ draft_len now + 1 = (pushed-numbers now one Rnd is.one_is).len in
     let len2 : draft_len two ≡ draft_len one + 1 = (pushed-numbers one two (Mul (slice_index xs i) (slice_index ys j)) is.two_is).len in
     let len3 : draft_len three ≡ draft_len two + 1 = (pushed-numbers two three (Add random first) is.three_is).len in
-    let random_at : to place ≡ random = ap to zeroth ∙ at 0 ∙ omega (arith, len, is.random_is) in
-    let first_at : to (place + 1) ≡ first = at 1 ∙ omega (arith, len, len1, is.first_is) in
-    let half_at : to (place + 2) ≡ half = at 2 ∙ omega (arith, len, len1, len2, is.half_is) in
-    let second_at : to (place + 3) ≡ second = at 3 ∙ omega (arith, len, len1, len2, len3, is.second_is) in
+    let random_at : to position ≡ random = ap to zeroth ∙ at 0 ∙ omega (arith, len, is.random_is) in
+    let first_at : to (position + 1) ≡ first = at 1 ∙ omega (arith, len, len1, is.first_is) in
+    let half_at : to (position + 2) ≡ half = at 2 ∙ omega (arith, len, len1, len2, is.half_is) in
+    let second_at : to (position + 3) ≡ second = at 3 ∙ omega (arith, len, len1, len2, len3, is.second_is) in
     let cross : (a b : ℕ) → a < n → b < n → moved to (Mul a (n + b)) ≡ Mul (slice_index xs a) (slice_index ys b) =
     λ a b u v. ap (λ (p : ℕ). Mul p (to (n + b))) (placement-left xs ys base n a left u) ∙ ap (Mul (slice_index xs a)) (placement-right xs ys base n b left right v) in
     let sum : (a b p q : ℕ) → to a ≡ p → to b ≡ q → moved to (Add a b) ≡ Add p q =
     λ a b p q u v. ap (λ (r : ℕ). Add r (to b)) u ∙ ap (Add p) v in
     let i1 : List Instr = i0 ++ Rnd ∷ [] in
     let i2 : List Instr = i1 ++ Mul i (n + j) ∷ [] in
-    let i3 : List Instr = i2 ++ Add place (place + 1) ∷ [] in
+    let i3 : List Instr = i2 ++ Add position (position + 1) ∷ [] in
     let i4 : List Instr = i3 ++ Mul j (n + i) ∷ [] in
-    let i5 : List Instr = i4 ++ Add (place + 2) (place + 3) ∷ [] in
+    let i5 : List Instr = i4 ++ Add (position + 2) (position + 3) ∷ [] in
     let n1 : length i1 ≡ k + 1 = length-append i0 (Rnd ∷ []) ∙ omega (arith, n0) in
     let n2 : length i2 ≡ k + 2 = length-append i1 (Mul i (n + j) ∷ []) ∙ omega (arith, n1) in
-    let n3 : length i3 ≡ k + 3 = length-append i2 (Add place (place + 1) ∷ []) ∙ omega (arith, n2) in
+    let n3 : length i3 ≡ k + 3 = length-append i2 (Add position (position + 1) ∷ []) ∙ omega (arith, n2) in
     let n4 : length i4 ≡ k + 4 = length-append i3 (Mul j (n + i) ∷ []) ∙ omega (arith, n3) in
     let p1 : Placing old one to i1 total = Placing-push old now one to i0 total Rnd Rnd so (omega (arith, n0, number)) is.one_is refl in
     let p2 : Placing old two to i2 total =
     Placing-push old one two to i1 total (Mul i (n + j)) (Mul (slice_index xs i) (slice_index ys j)) p1 (omega (arith, n1, number)) is.two_is (cross i j low high) in
     let p3 : Placing old three to i3 total =
-    Placing-push old two three to i2 total (Add place (place + 1)) (Add random first) p2 (omega (arith, n2, number)) is.three_is (sum place (place + 1) random first random_at first_at) in
+    Placing-push old two three to i2 total (Add position (position + 1)) (Add random first) p2 (omega (arith, n2, number)) is.three_is (sum position (position + 1) random first random_at first_at) in
     let p4 : Placing old four to i4 total =
     Placing-push old three four to i3 total (Mul j (n + i)) (Mul (slice_index xs j) (slice_index ys i)) p3 (omega (arith, n3, number)) is.four_is (cross j i high low) in
     let p5 : Placing old five to i5 total =
-    Placing-push old four five to i4 total (Add (place + 2) (place + 3)) (Add half second) p4 (omega (arith, n4, number)) is.five_is (sum (place + 2) (place + 3) half second half_at second_at) in
+    Placing-push old four five to i4 total (Add (position + 2) (position + 3)) (Add half second) p4 (omega (arith, n4, number)) is.five_is (sum (position + 2) (position + 3) half second half_at second_at) in
     let more : flat_map (product_pair n) (pairs_before n i (j + 1 - (i + 1))) ≡ i0 ++ product_pair n (pair i j) =
     let e : j + 1 - (i + 1) ≡ j - (i + 1) + 1 = omega (arith, less) in
     let f : i + 1 + (j - (i + 1)) ≡ j = omega (arith, less) in
@@ -145,10 +145,10 @@ Crossing-more old now one two three four five xs ys n i j random first half seco
     ∙ ap (flat_map (product_pair n)) (pairs_before-more n i (j - (i + 1)) ∙ ap (λ (l : ℕ). done ++ pair i l ∷ []) f)
     ∙ blocks-more (product_pair n) done (pair i j) in
     let same : i5 ≡ flat_map (product_pair n) (pairs_before n i (j + 1 - (i + 1))) =
-    append_assoc i3 (Mul j (n + i) ∷ []) (Add (place + 2) (place + 3) ∷ [])
-    ∙ append_assoc i2 (Add place (place + 1) ∷ []) (Mul j (n + i) ∷ Add (place + 2) (place + 3) ∷ [])
-    ∙ append_assoc i1 (Mul i (n + j) ∷ []) (Add place (place + 1) ∷ Mul j (n + i) ∷ Add (place + 2) (place + 3) ∷ [])
-    ∙ append_assoc i0 (Rnd ∷ []) (Mul i (n + j) ∷ Add place (place + 1) ∷ Mul j (n + i) ∷ Add (place + 2) (place + 3) ∷ [])
+    append_assoc i3 (Mul j (n + i) ∷ []) (Add (position + 2) (position + 3) ∷ [])
+    ∙ append_assoc i2 (Add position (position + 1) ∷ []) (Mul j (n + i) ∷ Add (position + 2) (position + 3) ∷ [])
+    ∙ append_assoc i1 (Mul i (n + j) ∷ []) (Add position (position + 1) ∷ Mul j (n + i) ∷ Add (position + 2) (position + 3) ∷ [])
+    ∙ append_assoc i0 (Rnd ∷ []) (Mul i (n + j) ∷ Add position (position + 1) ∷ Mul j (n + i) ∷ Add (position + 2) (position + 3) ∷ [])
     ∙ sym more in
     Placing-same old five to i5 _ total same p5
 
@@ -170,7 +170,7 @@ length-crosses_rows n r le =
 pub record Rowing (old now : Draft) (xs ys regs : List ℕ) (n r : ℕ) : Type 0 where
   pub placing : Placing old now (product_to old xs ys) (crosses_rows n r) (product_total n)
   pub count : length regs ≡ n
-  pub done : (s : ℕ) → s < r → slice_index regs s ≡ product_to old xs ys (sum_place n s n)
+  pub done : (s : ℕ) → s < r → slice_index regs s ≡ product_to old xs ys (sum_position n s n)
 
 -- behind all pairs
 pub Rowing-start : (old now : Draft) (xs ys : List ℕ) (n i : ℕ) → Crossing old now xs ys n i i → i ≡ n → Rowing old now xs ys (replicate n 0) n 0
@@ -189,7 +189,7 @@ Rowing-start old now xs ys n i so end =
 -- the row's product and its sums in the columns below m are done too; the last of them is `sum`
 pub record Columning (old now : Draft) (xs ys : List ℕ) (n r m sum : ℕ) : Type 0 where
   pub placing : Placing old now (product_to old xs ys) (crosses_rows n r ++ Mul r (n + r) ∷ map (row_sum n r) (others r m)) (product_total n)
-  pub last : sum ≡ product_to old xs ys (sum_place n r m)
+  pub last : sum ≡ product_to old xs ys (sum_position n r m)
 
 -- before a row: how long the trace is, and that there is room
 pub Rowing-len : (old now : Draft) (xs ys regs : List ℕ) (n r : ℕ) → Rowing old now xs ys regs n r → r < n
@@ -210,9 +210,9 @@ Rowing-room old now xs ys regs n r so low =
 
 -- where the last sum of a row stands
 pub sum-at : (old : Draft) (xs ys : List ℕ) (n r m : ℕ) → length xs ≡ n → length ys ≡ n
-    → product_to old xs ys (sum_place n r m) ≡ draft_len old + (5 * length (pairs n) + n * r + length (others r m))
+    → product_to old xs ys (sum_position n r m) ≡ draft_len old + (5 * length (pairs n) + n * r + length (others r m))
 sum-at old xs ys n r m left right =
-    placement-next (xs ++ ys) (draft_len old) (sum_place n r m) (5 * length (pairs n) + n * r + length (others r m)) (omega (arith, two-banks xs ys n left right))
+    placement-next (xs ++ ys) (draft_len old) (sum_position n r m) (5 * length (pairs n) + n * r + length (others r m)) (omega (arith, two-banks xs ys n left right))
 
 -- the row's product is appended
 pub Columning-start : (old now next : Draft) (xs ys regs : List ℕ) (n r sum : ℕ) → Rowing old now xs ys regs n r → r < n → length xs ≡ n → length ys ≡ n
@@ -265,27 +265,27 @@ Columning-len old now xs ys n r m sum so low =
     omega (arith, Placing-len old now (product_to old xs ys) _ (product_total n) so.placing, length-columns n r m (omega (arith, low)))
 
 -- where a cell stands: behind the shares
-cell_place-above : (n r m : ℕ) → (r ≡ m → ⊥) → 2 * n ≤ cell_place n r m
-cell_place-above n r m other = elim (cases_order r m) [
+cell_position-above : (n r m : ℕ) → (r ≡ m → ⊥) → 2 * n ≤ cell_position n r m
+cell_position-above n r m other = elim (cases_order r m) [
   | inl same ↦ absurd (other same)
-  | inr (inl less) ↦ omega (arith, cell_place-later n r m less)
-  | inr (inr more) ↦ omega (arith, cell_place-earlier n r m more)
+  | inr (inl less) ↦ omega (arith, cell_position-later n r m less)
+  | inr (inr more) ↦ omega (arith, cell_position-earlier n r m more)
 ]
 
 -- so in the code it stands where it is computed to be
 pub cell-at : (old : Draft) (xs ys : List ℕ) (n r m cell : ℕ) → length xs ≡ n → length ys ≡ n → (r ≡ m → ⊥)
-    → 2 * n + cell ≡ draft_len old + cell_place n r m → product_to old xs ys (cell_place n r m) ≡ cell
+    → 2 * n + cell ≡ draft_len old + cell_position n r m → product_to old xs ys (cell_position n r m) ≡ cell
 cell-at old xs ys n r m cell left right other is =
-    let above : 2 * n ≤ cell_place n r m = cell_place-above n r m other in
-    placement-next (xs ++ ys) (draft_len old) (cell_place n r m) (cell_place n r m - 2 * n) (omega (arith, two-banks xs ys n left right, above))
+    let above : 2 * n ≤ cell_position n r m = cell_position-above n r m other in
+    placement-next (xs ++ ys) (draft_len old) (cell_position n r m) (cell_position n r m - 2 * n) (omega (arith, two-banks xs ys n left right, above))
     ∙ omega (arith, above, is)
 
 -- the sum of another column is appended
-pub Columning-more : (old now next : Draft) (xs ys : List ℕ) (n r m sum cell place : ℕ) → Columning old now xs ys n r m sum → r < n → m < n → (r ≡ m → ⊥)
-    → length xs ≡ n → length ys ≡ n → product_to old xs ys (cell_place n r m) ≡ cell
-    → next ≡ record now { instrs = now.instrs ++ Add sum cell ∷ []; spare = now.spare - 1 } → place ≡ draft_len now
-    → Columning old next xs ys n r (m + 1) place
-Columning-more old now next xs ys n r m sum cell place so low high other left right cell_is is here =
+pub Columning-more : (old now next : Draft) (xs ys : List ℕ) (n r m sum cell position : ℕ) → Columning old now xs ys n r m sum → r < n → m < n → (r ≡ m → ⊥)
+    → length xs ≡ n → length ys ≡ n → product_to old xs ys (cell_position n r m) ≡ cell
+    → next ≡ record now { instrs = now.instrs ++ Add sum cell ∷ []; spare = now.spare - 1 } → position ≡ draft_len now
+    → Columning old next xs ys n r (m + 1) position
+Columning-more old now next xs ys n r m sum cell position so low high other left right cell_is is here =
     let to : ℕ → ℕ = product_to old xs ys in
     let one : suc m ≡ m + 1 = omega arith in
     let front : List Instr = crosses_rows n r ++ Mul r (n + r) ∷ map (row_sum n r) (others r m) in
@@ -302,7 +302,7 @@ Columning-more old now next xs ys n r m sum cell place so low high other left ri
     record {
       placing = Placing-same old next to (front ++ row_sum n r m ∷ []) _ (product_total n) same
           (Placing-push old now next to front (product_total n) (row_sum n r m) (Add sum cell) so.placing (omega (arith, long, within, few)) is
-          (ap (λ (p : ℕ). Add p (to (cell_place n r m))) (sym so.last) ∙ ap (Add sum) cell_is));
+          (ap (λ (p : ℕ). Add p (to (cell_position n r m))) (sym so.last) ∙ ap (Add sum) cell_is));
       last = omega (arith, sum-at old xs ys n r (m + 1) left right, here, Columning-len old now xs ys n r m sum so low, grown);
     }
 
@@ -313,7 +313,7 @@ Columning-same old now xs ys n r m sum so here =
     let same : others r (m + 1) ≡ others r m = ap (others r) (sym one) ∙ others-same r m here in
     record {
       placing = Placing-same old now (product_to old xs ys) _ _ (product_total n) (ap (λ (js : List ℕ). crosses_rows n r ++ Mul r (n + r) ∷ map (row_sum n r) js) (sym same)) so.placing;
-      last = so.last ∙ ap (λ (js : List ℕ). product_to old xs ys (row_place n r + length js)) (sym same);
+      last = so.last ∙ ap (λ (js : List ℕ). product_to old xs ys (row_position n r + length js)) (sym same);
     }
 
 -- the row is done
@@ -332,7 +332,7 @@ Rowing-more old before now xs ys regs n r m sum rows so low end =
       done = λ s less. elim (cases_eq s r) [
         | inl here ↦
             ap (slice_index (slice_set regs r sum)) here ∙ get_or-set_same regs r sum 0 (omega (arith, low, rows.count)) ∙ so.last
-            ∙ ap (λ (k : ℕ). product_to old xs ys (sum_place n r k)) end ∙ ap (λ (k : ℕ). product_to old xs ys (sum_place n k n)) (sym here)
+            ∙ ap (λ (k : ℕ). product_to old xs ys (sum_position n r k)) end ∙ ap (λ (k : ℕ). product_to old xs ys (sum_position n k n)) (sym here)
         | inr other ↦ get_or-set_other regs r s sum 0 other ∙ rows.done s (omega (arith, less, other))
       ];
     }
@@ -342,5 +342,5 @@ pub Rowing-all : (old now : Draft) (xs ys regs : List ℕ) (n r : ℕ) → Rowin
 Rowing-all old now xs ys regs n r so end =
     Placing-all old now (xs ++ ys) regs (product_gadget n) (product_total n)
     (Placing-same old now (product_to old xs ys) _ _ (product_total n) (ap (crosses_rows n) end) so.placing)
-    (fill_by_all (λ s. product_to old xs ys (sum_place n s n)) regs n 0 so.count (λ s low. so.done s (omega (arith, low, end)))
-    ∙ sym (map-map-range (product_to old xs ys) (λ s. sum_place n s n) 0 n))
+    (fill_by_all (λ s. product_to old xs ys (sum_position n s n)) regs n 0 so.count (λ s low. so.done s (omega (arith, low, end)))
+    ∙ sym (map-map-range (product_to old xs ys) (λ s. sum_position n s n) 0 n))

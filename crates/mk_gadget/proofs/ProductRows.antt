@@ -14,12 +14,12 @@ use Rattle.mk_code.specs.Listing.{AllFit}
 use Rattle.mk_code.specs.Trace.{run, randoms, entry}
 use Rattle.mk_code.proofs.Runs.{run-append, run-push, randoms-append}
 use Rattle.mk_gadget.specs.Pairs.{pairs, others}
-use Rattle.mk_gadget.specs.Product.{cell_place, row_place, sum_place, product_pair, product_row, product_gadget}
+use Rattle.mk_gadget.specs.Product.{cell_position, row_position, sum_position, product_pair, product_row, product_gadget}
 use Rattle.mk_share.proofs.Banks.{range-more}
 use Rattle.mk_gadget.proofs.Pairs.{pair, pairs-induct, others-same, others-other, length-others_high}
 use Rattle.mk_gadget.proofs.Blocks.{length-blocks, blocks-at, blocks-more, map-blocks-more, old, own, run-next, run-done, randoms-blocks, AllFit-append, Each, each-none, each-cons, each-append}
 use Rattle.mk_gadget.proofs.ShareSums.{share_sum, share_sum-other, share_sum-at}
-use Rattle.mk_gadget.proofs.ProductRun.{ProductLabel, Cell, Cross, Half, Sum, product_labels_of, product_row_labels, product_labels, product_value_of, cell_of, cell_place-below, product_entries, length-product_entries, product-cell_at, product-pairs_run, product-pairs_fit}
+use Rattle.mk_gadget.proofs.ProductRun.{ProductLabel, Cell, Cross, Half, Sum, product_labels_of, product_row_labels, product_labels, product_value_of, cell_of, cell_position-below, product_entries, length-product_entries, product-cell_at, product-pairs_run, product-pairs_fit}
 
 -- a function of each of another function's values
 map-map : {X Y Z : Type 0} (f : Y → Z) (g : X → Y) (xs : List X) → map f (map g xs) ≡ map (λ x. f (g x)) xs
@@ -35,7 +35,7 @@ range-last n =
 
 -- an instruction of row i
 abbrev pub row_sum : ℕ → ℕ → ℕ → Instr
-row_sum n i j = Add (sum_place n i j) (cell_place n i j)
+row_sum n i j = Add (sum_position n i j) (cell_position n i j)
 
 -- how many instructions a row has
 pub length-product_row : (n i : ℕ) → i < n → length (product_row n i) ≡ n
@@ -68,7 +68,7 @@ length-rows_labels n r le =
 record HasCells (field : FieldId) (n : ℕ) (tape state entries : List ℕ) : Type 0 where
   long : 2 * n + 5 * length (pairs n) ≤ length entries
   share : (k : ℕ) → k < 2 * n → slice_index entries k ≡ slice_index state k
-  cell : (i j : ℕ) → i < n → j < n → (i ≡ j → ⊥) → slice_index entries (cell_place n i j) ≡ cell_of field n tape state i j
+  cell : (i j : ℕ) → i < n → j < n → (i ≡ j → ⊥) → slice_index entries (cell_position n i j) ≡ cell_of field n tape state i j
 
 -- they do behind the instructions of the pairs,
 pairs-cells : (field : FieldId) (n : ℕ) (tape state : List ℕ) → length state ≡ 2 * n → HasCells field n tape state (product_entries field n tape state (pairs n))
@@ -83,7 +83,7 @@ more-cells : (field : FieldId) (n : ℕ) (tape state entries more : List ℕ) �
 more-cells field n tape state entries more has = record {
   long = omega (arith, has.long, length-append entries more);
   share = λ k below. old entries more k (omega (arith, below, has.long)) ∙ has.share k below;
-  cell = λ i j low high other. old entries more (cell_place n i j) (omega (arith, cell_place-below n i j low high other, has.long)) ∙ has.cell i j low high other;
+  cell = λ i j low high other. old entries more (cell_position n i j) (omega (arith, cell_position-below n i j low high other, has.long)) ∙ has.cell i j low high other;
 }
 
 -- the value of a sum, among those of its row
@@ -104,7 +104,7 @@ row-more value i m js =
 
 -- the sums of row i in the columns below m
 product-sums_run : (field : FieldId) (maps : List AddMap) (n : ℕ) (tape state rest entries : List ℕ) (i m : ℕ) → HasCells field n tape state entries
-    → length entries ≡ row_place n i → i < n → m ≤ n
+    → length entries ≡ row_position n i → i < n → m ≤ n
     → run field maps (map (row_sum n i) (others i m)) rest (entries ++ product_value_of field n tape state (Sum i 0) ∷ [])
     ≡ entries ++ map (product_value_of field n tape state) (product_row_labels m i)
 unfolding others share_sum
@@ -121,12 +121,12 @@ product-sums_run field maps n tape state rest entries i (suc m) has long low le 
           ∙ ap (λ (js : List ℕ). entries ++ map value (Sum i 0 ∷ map (λ j. Sum i (suc j)) js)) (sym (others-same i m same))
       | inr other ↦
           let vs : List ℕ = map value (product_row_labels m i) in
-          let sum : slice_index (entries ++ vs) (sum_place n i m) ≡ value (Sum i m) =
-          own entries vs (sum_place n i m) (length (others i m)) (omega (arith, long)) ∙ row-sum_at field n tape state i m in
-          let cell : slice_index (entries ++ vs) (cell_place n i m) ≡ value (Cell i m) =
+          let sum : slice_index (entries ++ vs) (sum_position n i m) ≡ value (Sum i m) =
+          own entries vs (sum_position n i m) (length (others i m)) (omega (arith, long)) ∙ row-sum_at field n tape state i m in
+          let cell : slice_index (entries ++ vs) (cell_position n i m) ≡ value (Cell i m) =
           (more-cells field n tape state entries vs has).cell i m low (omega (arith, le)) other in
-          let next : bit_xor (slice_index (entries ++ vs) (sum_place n i m)) (slice_index (entries ++ vs) (cell_place n i m)) ≡ value (Sum i (suc m)) =
-          ap (λ (u : ℕ). bit_xor u (slice_index (entries ++ vs) (cell_place n i m))) sum
+          let next : bit_xor (slice_index (entries ++ vs) (sum_position n i m)) (slice_index (entries ++ vs) (cell_position n i m)) ≡ value (Sum i (suc m)) =
+          ap (λ (u : ℕ). bit_xor u (slice_index (entries ++ vs) (cell_position n i m))) sum
           ∙ ap (bit_xor (value (Sum i m))) cell
           ∙ sym (share_sum-other (value (Sum i 0)) (cell_of field n tape state i) i m other) in
           ap (λ (js : List ℕ). run field maps (map (row_sum n i) js) rest start) (others-other i m other)
@@ -141,7 +141,7 @@ product-sums_run field maps n tape state rest entries i (suc m) has long low le 
 
 -- row i
 product-row_run : (field : FieldId) (maps : List AddMap) (n : ℕ) (tape state rest entries : List ℕ) (i : ℕ) → HasCells field n tape state entries
-    → length entries ≡ row_place n i → i < n
+    → length entries ≡ row_position n i → i < n
     → run field maps (product_row n i) rest entries ≡ entries ++ map (product_value_of field n tape state) (product_row_labels n i)
 unfolding share_sum
 product-row_run field maps n tape state rest entries i has long low =
@@ -166,7 +166,7 @@ product-rows_run field maps n tape state rest (suc r) count le =
     let rows : List Instr = flat_map (product_row n) (range_with_len 0 r) in
     let vs : List ℕ = map value (flat_map (product_row_labels n) (range_with_len 0 r)) in
     let before : run field maps rows rest entries ≡ entries ++ vs = product-rows_run field maps n tape state rest r count (omega (arith, le)) in
-    let long : length (entries ++ vs) ≡ row_place n r =
+    let long : length (entries ++ vs) ≡ row_position n r =
     omega (arith, length-append entries vs, length-product_entries field n tape state (pairs n) count, length-map (flat_map (product_row_labels n) (range_with_len 0 r)) value, length-rows_labels n r (omega (arith, le))) in
     ap (λ (is : List ℕ). run field maps (flat_map (product_row n) is) rest entries) (range-last r)
     ∙ ap (λ (is : List Instr). run field maps is rest entries) (blocks-more (product_row n) (range_with_len 0 r) r)
@@ -194,7 +194,7 @@ product-run field maps n tape state count =
 
 -- share s of the out bank
 pub product-out : (field : FieldId) (maps : List AddMap) (n : ℕ) (tape state : List ℕ) (s : ℕ) → length state ≡ 2 * n → s < n
-    → slice_index (run field maps (product_gadget n).instrs tape state) (sum_place n s n) ≡ product_value_of field n tape state (Sum s n)
+    → slice_index (run field maps (product_gadget n).instrs tape state) (sum_position n s n) ≡ product_value_of field n tape state (Sum s n)
 product-out field maps n tape state s count low =
     let value : ProductLabel → ℕ = product_value_of field n tape state in
     let front : List ProductLabel = flat_map product_labels_of (pairs n) in
@@ -206,9 +206,9 @@ product-out field maps n tape state s count low =
     let here : get_or (range_with_len 0 n) s 0 ≡ s = get_or-range_with_len 0 n s 0 low ∙ omega arith in
     let row : s + 1 ≤ n = omega (arith, low) in
     let inside : n * s + t < n * n = omega (arith, mul-le-mul_left n row, within) in
-    ap (λ (es : List ℕ). slice_index es (sum_place n s n)) (product-run field maps n tape state count)
-    ∙ ap (λ (vs : List ℕ). slice_index (state ++ vs) (sum_place n s n)) (map-append value front back)
-    ∙ own state (map value front ++ map value back) (sum_place n s n) (5 * length (pairs n) + (n * s + t)) (omega (arith, count))
+    ap (λ (es : List ℕ). slice_index es (sum_position n s n)) (product-run field maps n tape state count)
+    ∙ ap (λ (vs : List ℕ). slice_index (state ++ vs) (sum_position n s n)) (map-append value front back)
+    ∙ own state (map value front ++ map value back) (sum_position n s n) (5 * length (pairs n) + (n * s + t)) (omega (arith, count))
     ∙ own (map value front) (map value back) (5 * length (pairs n) + (n * s + t)) (n * s + t) (omega (arith, length-map front value, long))
     ∙ get_or-map value back (n * s + t) (Cell 0 0) 0 (omega (arith, inside, many))
     ∙ ap value (blocks-at (product_row_labels n) n 0 (Cell 0 0) (range_with_len 0 n) s t (range-each (product_row_labels n) n n (omega arith) (length-row_labels n)) (omega (arith, low, length-range_with_len 0 n)) within)
@@ -217,8 +217,8 @@ product-out field maps n tape state s count low =
     ∙ row-sum_at field n tape state s n
 
 -- where share s of the out bank stands
-pub sum_place-inside : (n s : ℕ) → s < n → sum_place n s n < 2 * n + (5 * length (pairs n) + n * n)
-sum_place-inside n s low =
+pub sum_position-inside : (n s : ℕ) → s < n → sum_position n s n < 2 * n + (5 * length (pairs n) + n * n)
+sum_position-inside n s low =
     let row : s + 1 ≤ n = omega (arith, low) in
     omega (arith, mul-le-mul_left n row, length-others_high s n low)
 
@@ -255,7 +255,7 @@ randoms-product n =
     )
 
 -- the sums of a row read what stands before them
-product-sums_fit : (field : FieldId) (maps n len i m : ℕ) → i < n → m ≤ n → len ≡ row_place n i → AllFit field maps (len + 1) (map (row_sum n i) (others i m))
+product-sums_fit : (field : FieldId) (maps n len i m : ℕ) → i < n → m ≤ n → len ≡ row_position n i → AllFit field maps (len + 1) (map (row_sum n i) (others i m))
 unfolding others
 product-sums_fit field maps n len i zero low le here = tt
 product-sums_fit field maps n len i (suc m) low le here =
@@ -267,7 +267,7 @@ product-sums_fit field maps n len i (suc m) low le here =
           subst (λ (js : List ℕ). AllFit field maps (len + 1) (map (row_sum n i) js)) (sym (others-other i m other))
           (subst (AllFit field maps (len + 1)) (sym (map-append (row_sum n i) (others i m) (m ∷ [])))
           (AllFit-append field maps (len + 1) (map (row_sum n i) (others i m)) (row_sum n i m ∷ []) before
-          ((omega (arith, long, here), omega (arith, here, cell_place-below n i m low (omega (arith, le)) other)), tt)))
+          ((omega (arith, long, here), omega (arith, here, cell_position-below n i m low (omega (arith, le)) other)), tt)))
     ]
 
 -- and so do the rows
@@ -275,7 +275,7 @@ product-rows_fit : (field : FieldId) (maps n len r : ℕ) → r ≤ n → len �
 product-rows_fit field maps n len zero le here = tt
 product-rows_fit field maps n len (suc r) le here =
     let rows : List Instr = flat_map (product_row n) (range_with_len 0 r) in
-    let at : len + length rows ≡ row_place n r = omega (arith, here, length-product_rows n r (omega (arith, le))) in
+    let at : len + length rows ≡ row_position n r = omega (arith, here, length-product_rows n r (omega (arith, le))) in
     subst (λ (is : List ℕ). AllFit field maps len (flat_map (product_row n) is)) (sym (range-last r))
     (subst (AllFit field maps len) (sym (blocks-more (product_row n) (range_with_len 0 r) r))
     (AllFit-append field maps len rows (product_row n r) (product-rows_fit field maps n len r (omega (arith, le)) here)

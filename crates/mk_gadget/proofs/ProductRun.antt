@@ -13,7 +13,7 @@ use Rattle.mk_code.specs.Listing.{AllFit}
 use Rattle.mk_code.specs.Trace.{run, randoms}
 use Rattle.mk_code.proofs.Runs.{index-drop, run-append}
 use Rattle.mk_gadget.specs.Pairs.{Pair, pairs, pair_number, others}
-use Rattle.mk_gadget.specs.Product.{pair_place, cell_place, product_pair}
+use Rattle.mk_gadget.specs.Product.{pair_position, cell_position, product_pair}
 use Rattle.mk_gadget.proofs.Pairs.{pair, AreNumbered, pairs-numbered, pairs-induct, pair_number-below}
 use Rattle.mk_gadget.proofs.Blocks.{length-blocks, blocks-at, blocks-more, map-blocks-more, old, own, run-next, run-done, randoms-blocks, AllFit-append}
 use Rattle.mk_gadget.proofs.ShareSums.{share_sum}
@@ -80,19 +80,19 @@ cells-pair field x y z i j order =
     ∙ sum-cancel (z i j) (bit_xor a b)
 
 -- where a cell stands
-pub cell_place-later : (n i j : ℕ) → i < j → cell_place n i j ≡ pair_place n i j
-cell_place-later n i j less = rw (lt-ltb i j less) refl
+pub cell_position-later : (n i j : ℕ) → i < j → cell_position n i j ≡ pair_position n i j
+cell_position-later n i j less = rw (lt-ltb i j less) refl
 
 -- if its column is an earlier one
-pub cell_place-earlier : (n i j : ℕ) → j < i → cell_place n i j ≡ pair_place n j i + 4
-cell_place-earlier n i j less = rw (le-ltb i j (omega (arith, less))) refl
+pub cell_position-earlier : (n i j : ℕ) → j < i → cell_position n i j ≡ pair_position n j i + 4
+cell_position-earlier n i j less = rw (le-ltb i j (omega (arith, less))) refl
 
 -- each cell stands among the instructions of the pairs
-pub cell_place-below : (n i j : ℕ) → i < n → j < n → (i ≡ j → ⊥) → cell_place n i j < 2 * n + 5 * length (pairs n)
-cell_place-below n i j low high other = elim (cases_order i j) [
+pub cell_position-below : (n i j : ℕ) → i < n → j < n → (i ≡ j → ⊥) → cell_position n i j < 2 * n + 5 * length (pairs n)
+cell_position-below n i j low high other = elim (cases_order i j) [
   | inl same ↦ absurd (other same)
-  | inr (inl less) ↦ omega (arith, cell_place-later n i j less, pair_number-below n n i j low less high)
-  | inr (inr more) ↦ omega (arith, cell_place-earlier n i j more, pair_number-below n n j i high more low)
+  | inr (inl less) ↦ omega (arith, cell_position-later n i j less, pair_number-below n n i j low less high)
+  | inr (inr more) ↦ omega (arith, cell_position-earlier n i j more, pair_number-below n n j i high more low)
 ]
 
 -- the entries behind a state once the instructions of these pairs are carried out
@@ -109,30 +109,30 @@ length-product_entries field n tape state ps count =
 -- instruction t of a pair
 product-pair_at : (field : FieldId) (n : ℕ) (tape state : List ℕ) (ps : List Pair) (i j t : ℕ) → length state ≡ 2 * n → AreNumbered n ps → i < j → j < n
     → pair_number n i j < length ps → t < 5
-    → slice_index (product_entries field n tape state ps) (pair_place n i j + t)
+    → slice_index (product_entries field n tape state ps) (pair_position n i j + t)
     ≡ product_value_of field n tape state (get_or (product_labels_of (pair i j)) t (Cell 0 0))
 product-pair_at field n tape state ps i j t count numbered order high here within =
     let value : ProductLabel → ℕ = product_value_of field n tape state in
     let labels : List ProductLabel = flat_map product_labels_of ps in
     let k : ℕ = pair_number n i j in
     let long : length labels ≡ 5 * length ps = length-blocks product_labels_of 5 (pair 0 0) ps (λ l below. refl) in
-    own state (map value labels) (pair_place n i j + t) (5 * k + t) (omega (arith, count))
+    own state (map value labels) (pair_position n i j + t) (5 * k + t) (omega (arith, count))
     ∙ get_or-map value labels (5 * k + t) (Cell 0 0) 0 (omega (arith, here, within, long))
     ∙ ap value (blocks-at product_labels_of 5 (pair 0 0) (Cell 0 0) ps k t (λ l below. refl) here within)
     ∙ ap (λ (p : Pair). value (get_or (product_labels_of p) t (Cell 0 0))) (numbered.at i j order high here)
 
 -- the cell of a row and another column
 pub product-cell_at : (field : FieldId) (n : ℕ) (tape state : List ℕ) (i j : ℕ) → length state ≡ 2 * n → i < n → j < n → (i ≡ j → ⊥)
-    → slice_index (product_entries field n tape state (pairs n)) (cell_place n i j) ≡ cell_of field n tape state i j
+    → slice_index (product_entries field n tape state (pairs n)) (cell_position n i j) ≡ cell_of field n tape state i j
 product-cell_at field n tape state i j count low high other =
     let entries : List ℕ = product_entries field n tape state (pairs n) in
     elim (cases_order i j) [
       | inl same ↦ absurd (other same)
       | inr (inl less) ↦
-          ap (slice_index entries) (let e : pair_place n i j ≡ pair_place n i j + 0 = omega arith in cell_place-later n i j less ∙ e)
+          ap (slice_index entries) (let e : pair_position n i j ≡ pair_position n i j + 0 = omega arith in cell_position-later n i j less ∙ e)
           ∙ product-pair_at field n tape state (pairs n) i j 0 count (pairs-numbered n) less high (pair_number-below n n i j low less high) (omega arith)
       | inr (inr more) ↦
-          ap (slice_index entries) (cell_place-earlier n i j more)
+          ap (slice_index entries) (cell_position-earlier n i j more)
           ∙ product-pair_at field n tape state (pairs n) j i 4 count (pairs-numbered n) more low (pair_number-below n n j i high more low) (omega arith)
     ]
 
@@ -149,9 +149,9 @@ product-step field maps n tape state i j before count order high number ran =
     let value : ProductLabel → ℕ = product_value_of field n tape state in
     let more : List ℕ = map value (flat_map product_labels_of before) in
     let entries : List ℕ = state ++ more in
-    let place : ℕ = pair_place n i j in
+    let position : ℕ = pair_position n i j in
     let rest : List ℕ = drop (randoms (flat_map (product_pair n) before)) tape in
-    let long : length entries ≡ place = omega (arith, length-product_entries field n tape state before count, number) in
+    let long : length entries ≡ position = omega (arith, length-product_entries field n tape state before count, number) in
     let word : slice_index rest 0 ≡ value (Cell i j) =
     index-drop (randoms (flat_map (product_pair n) before)) tape
     ∙ ap (slice_index tape) (let e : randoms (flat_map (product_pair n) before) ≡ 1 * length before = randoms-blocks (product_pair n) 1 (λ p. refl) before in omega (arith, e, number))
@@ -162,17 +162,17 @@ product-step field maps n tape state i j before count order high number ran =
     λ a b vs first second.
     ap (λ (u : ℕ). product field u (slice_index (entries ++ vs) (n + b))) (share a vs (omega (arith, first)))
     ∙ ap (product field (x a)) (share (n + b) vs (omega (arith, second))) in
-    let at : (t : ℕ) (vs : List ℕ) → slice_index (entries ++ vs) (place + t) ≡ slice_index vs t =
-    λ t vs. own entries vs (place + t) t (omega (arith, long)) in
+    let at : (t : ℕ) (vs : List ℕ) → slice_index (entries ++ vs) (position + t) ≡ slice_index vs t =
+    λ t vs. own entries vs (position + t) t (omega (arith, long)) in
     let vs1 : List ℕ = value (Cell i j) ∷ [] in
     let vs2 : List ℕ = value (Cell i j) ∷ value (Cross i j) ∷ [] in
     let vs3 : List ℕ = value (Cell i j) ∷ value (Cross i j) ∷ value (Half i j) ∷ [] in
     let vs4 : List ℕ = value (Cell i j) ∷ value (Cross i j) ∷ value (Half i j) ∷ value (Cross j i) ∷ [] in
-    let half : bit_xor (slice_index (entries ++ vs2) place) (slice_index (entries ++ vs2) (place + 1)) ≡ value (Half i j) =
-    ap (λ (u : ℕ). bit_xor u (slice_index (entries ++ vs2) (place + 1))) (own entries vs2 place 0 (omega (arith, long)) ∙ cell-later field x y z i j order)
+    let half : bit_xor (slice_index (entries ++ vs2) position) (slice_index (entries ++ vs2) (position + 1)) ≡ value (Half i j) =
+    ap (λ (u : ℕ). bit_xor u (slice_index (entries ++ vs2) (position + 1))) (own entries vs2 position 0 (omega (arith, long)) ∙ cell-later field x y z i j order)
     ∙ ap (bit_xor (z i j)) (at 1 vs2) in
-    let cell : bit_xor (slice_index (entries ++ vs4) (place + 2)) (slice_index (entries ++ vs4) (place + 3)) ≡ value (Cell j i) =
-    ap (λ (u : ℕ). bit_xor u (slice_index (entries ++ vs4) (place + 3))) (at 2 vs4)
+    let cell : bit_xor (slice_index (entries ++ vs4) (position + 2)) (slice_index (entries ++ vs4) (position + 3)) ≡ value (Cell j i) =
+    ap (λ (u : ℕ). bit_xor u (slice_index (entries ++ vs4) (position + 3))) (at 2 vs4)
     ∙ ap (bit_xor (value (Half i j))) (at 3 vs4)
     ∙ sym (cell-earlier field x y z j i order) in
     let one : List ℕ → List ℕ = λ (es : List ℕ). run field maps (product_pair n (pair i j)) rest es in
@@ -181,9 +181,9 @@ product-step field maps n tape state i j before count order high number ran =
     ∙ ap one (ran ∙ sym (append-nil entries))
     ∙ run-next field maps Rnd _ rest entries [] (value (Cell i j)) word
     ∙ run-next field maps (Mul i (n + j)) _ (drop 1 rest) entries vs1 (value (Cross i j)) (cross i j vs1 (omega (arith, order, high)) high)
-    ∙ run-next field maps (Add place (place + 1)) _ (drop 0 (drop 1 rest)) entries vs2 (value (Half i j)) half
+    ∙ run-next field maps (Add position (position + 1)) _ (drop 0 (drop 1 rest)) entries vs2 (value (Half i j)) half
     ∙ run-next field maps (Mul j (n + i)) _ (drop 0 (drop 0 (drop 1 rest))) entries vs3 (value (Cross j i)) (cross j i vs3 high (omega (arith, order, high)))
-    ∙ run-next field maps (Add (place + 2) (place + 3)) [] (drop 0 (drop 0 (drop 0 (drop 1 rest)))) entries vs4 (value (Cell j i)) cell
+    ∙ run-next field maps (Add (position + 2) (position + 3)) [] (drop 0 (drop 0 (drop 0 (drop 1 rest)))) entries vs4 (value (Cell j i)) cell
     ∙ run-done field maps _ (entries ++ (vs4 ++ value (Cell j i) ∷ []))
     ∙ append_assoc state more (vs4 ++ value (Cell j i) ∷ [])
     ∙ ap (λ (vs : List ℕ). state ++ vs) (sym (map-blocks-more value product_labels_of before (pair i j)))

@@ -17,7 +17,7 @@ use Rattle.mk_code.specs.Counting.{AllBelow}
 use Rattle.mk_code.specs.Private.{observation}
 use Rattle.mk_code.proofs.LeftOut.{IsLeftOut, left_out}
 use Rattle.mk_gadget.specs.Pairs.{Pair, pairs, pair_number}
-use Rattle.mk_gadget.specs.Product.{sum_place, product_gadget}
+use Rattle.mk_gadget.specs.Product.{sum_position, product_gadget}
 use Rattle.mk_gadget.specs.Steady.{block_view, IsStrong}
 use Rattle.mk_gadget.proofs.Steady.{below-held}
 use Rattle.mk_gadget.proofs.ProductRun.{ProductLabel, Cell, Cross, Half, Sum, product_labels}
@@ -290,9 +290,9 @@ views-equal field maps n free first second probes outs tape left right inside wi
     let put : (o : ℕ) → Contains outs o → slice_index (observation (product_gadget n).outs u) o ≡ slice_index (observation (product_gadget n).outs v) o =
     λ o held.
     let low : o < n = below-held n outs o within held in
-    out-at (λ s. sum_place n s n) n o u low ∙ product-out field maps n tape first o left low
+    out-at (λ s. sum_position n s n) n o u low ∙ product-out field maps n tape first o left low
     ∙ output-stays field p r o moved low (any-held (λ i. nat_eq i o) outs o held (eq-eqb o o refl))
-    ∙ sym (product-out field maps n after second o right low) ∙ sym (out-at (λ s. sum_place n s n) n o v low) in
+    ∙ sym (product-out field maps n after second o right low) ∙ sym (out-at (λ s. sum_position n s n) n o v low) in
     view-same (length first) (product_gadget n) probes outs u v probed put
     ∙ ap (λ (b : ℕ). block_view b (product_gadget n) probes outs v) (left ∙ sym right)
 

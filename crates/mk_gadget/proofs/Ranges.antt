@@ -1,4 +1,4 @@
--- Lists made from ranges, where the places of a placed template are, and what is observed at places.
+-- Lists made from ranges, where the positions of a placed template are, and what is observed at positions.
 use Rattle.std.proofs.Common.{◌≡◌, ℕ, zero, suc, ◌+◌, ◌-◌, ◌<◌, ◌≤◌, List, [], ◌∷◌, ◌++◌, length, map, slice_index, bit_xor, refl, sym, ◌∙◌, ap, arith}
 use Rattle.std.specs.List.{range_with_len}
 use Rattle.std.proofs.lemmas.List.{length-append, get_or_append_left, get_or-append-add}
@@ -35,21 +35,21 @@ range-moved a b (suc n) =
     ∙ range-moved (a + 1) (b + 1) n in
     cc
 
--- a place of the first operand stands where that operand is
+-- a position of the first operand stands where that operand is
 pub placement-left : (xs ys : List ℕ) (base n i : ℕ) → length xs ≡ n → i < n → placement (xs ++ ys) base i ≡ slice_index xs i
 placement-left xs ys base n i count below =
     let inside : i < length (xs ++ ys) = omega (arith, length-append xs ys) in
     let within : i < length xs = omega arith in
     rw (lt-ltb i (length (xs ++ ys)) inside) (get_or_append_left xs ys 0 i within)
 
--- a place of the second operand stands where that operand is
+-- a position of the second operand stands where that operand is
 pub placement-right : (xs ys : List ℕ) (base n i : ℕ) → length xs ≡ n → length ys ≡ n → i < n → placement (xs ++ ys) base (n + i) ≡ slice_index ys i
 placement-right xs ys base n i left right below =
     let inside : n + i < length (xs ++ ys) = omega (arith, length-append xs ys) in
     rw (lt-ltb (n + i) (length (xs ++ ys)) inside)
     (ap (λ (k : ℕ). slice_index (xs ++ ys) (k + i)) (sym left) ∙ get_or-append-add xs ys i 0)
 
--- the gadget's own places stand from the base on
+-- the gadget's own positions stand from the base on
 pub placement-own : (reads : List ℕ) (base i : ℕ) → length reads ≤ i → placement reads base i ≡ base + (i - length reads)
 placement-own reads base i beyond = rw (le-ltb i (length reads) beyond) refl
 
@@ -59,19 +59,19 @@ unfolding AllBelow
 AllBelow-range q a zero within = tt
 AllBelow-range q a (suc n) within = (omega (arith, within), AllBelow-range q (a + 1) n (omega (arith, within)))
 
--- what is observed at places that a function tells one by one
+-- what is observed at positions that a function tells one by one
 observed-each : (entries xs : List ℕ) (at : ℕ → ℕ) (k : ℕ) → ((i : ℕ) → i < length xs → at (k + i) ≡ slice_index xs i)
     → observation xs entries ≡ map (λ i. slice_index entries (at i)) (range_with_len k (length xs))
 observed-each entries [] at k same = refl
 observed-each entries (x ∷ xs) at k same =
     let e : k ≡ k + 0 = omega arith in
-    let place : at k ≡ x = ap at e ∙ same 0 (omega arith) in
-    let here : slice_index entries x ≡ slice_index entries (at k) = ap (slice_index entries) (sym place) in
+    let position : at k ≡ x = ap at e ∙ same 0 (omega arith) in
+    let here : slice_index entries x ≡ slice_index entries (at k) = ap (slice_index entries) (sym position) in
     let rest : observation xs entries ≡ map (λ i. slice_index entries (at i)) (range_with_len (k + 1) (length xs)) =
     observed-each entries xs at (k + 1) (λ i below. let f : k + 1 + i ≡ k + suc i = omega arith in ap at f ∙ same (suc i) (omega (arith, below))) in
     cc
 
--- what is observed at a list of places, place by place
+-- what is observed at a list of positions, position by position
 pub observed-by_index : (entries xs : List ℕ) (n : ℕ) → length xs ≡ n
     → observation xs entries ≡ map (λ i. slice_index entries (slice_index xs i)) (range_with_len 0 n)
 observed-by_index entries xs n count =

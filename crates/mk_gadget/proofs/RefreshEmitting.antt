@@ -1,4 +1,4 @@
--- The refresh in the making: the pairs whose instructions are appended, and the places of the shares' sums.
+-- The refresh in the making: the pairs whose instructions are appended, and the positions of the shares' sums.
 use Rattle.std.proofs.Common.{arith, ◌≡◌, ℕ, suc, ◌+◌, ◌-◌, ◌*◌, ◌<◌, ◌≤◌, List, [], ◌∷◌, ◌++◌, length, slice_index, slice_set, inl, inr, refl, sym, ◌∙◌, ap, subst, append_assoc}
 use Rattle.std.specs.List.{flat_map}
 use Rattle.std.proofs.lemmas.Bool.{cases_eq}
@@ -19,7 +19,7 @@ use Rattle.mk_gadget.proofs.Blocks.{length-blocks, blocks-more}
 use Rattle.mk_gadget.proofs.RefreshRun.{refresh_sum-same, refresh_sum-later, refresh_sum-earlier, refresh_sum-below, first-done, second-done, length-refresh}
 use Rattle.mk_gadget.proofs.Placing.{Placing, Placing-start, Placing-length, Placing-len, pushed-numbers, Placing-push, Placing-same, Placing-all, placement-next, placement-below}
 
--- where a place of the refresh stands in the code
+-- where a position of the refresh stands in the code
 abbrev pub refresh_to : Draft → List ℕ → ℕ → ℕ
 refresh_to old xs = placement xs (draft_len old)
 
@@ -146,14 +146,14 @@ Refreshing-more old now one two three xs regs n i j random first second so is le
     let long : length front ≡ k = omega (arith, length-blocks (refresh_pair n) 3 (pair 0 0) done (λ l below. refl), length-pairs_before n i (j - (i + 1))) in
     let number : pair_number n i j < length (pairs n) = pair_number-below n n i j low less high in
     let len : draft_len now ≡ draft_len old + k = Refreshing-len old now xs regs n i j so less in
-    let place : (t : ℕ) → to (refresh_random n i j + t) ≡ draft_len old + (k + t) =
+    let position : (t : ℕ) → to (refresh_random n i j + t) ≡ draft_len old + (k + t) =
     λ t. placement-next xs (draft_len old) (refresh_random n i j + t) (k + t) (omega (arith, count)) in
     let zeroth : refresh_random n i j ≡ refresh_random n i j + 0 = omega arith in
-    let random_at : to (refresh_random n i j) ≡ random = ap to zeroth ∙ place 0 ∙ omega (arith, len, is.random_is) in
+    let random_at : to (refresh_random n i j) ≡ random = ap to zeroth ∙ position 0 ∙ omega (arith, len, is.random_is) in
     let one_len : draft_len one ≡ draft_len now + 1 = (pushed-numbers now one Rnd is.one_is).len in
     let two_len : draft_len two ≡ draft_len one + 1 = (pushed-numbers one two (Add (slice_index regs i) random) is.two_is).len in
-    let first_at : first ≡ to (refresh_random n i j + 1) = omega (arith, place 1, is.first_is, one_len, len) in
-    let second_at : second ≡ to (refresh_random n i j + 2) = omega (arith, place 2, is.second_is, two_len, one_len, len) in
+    let first_at : first ≡ to (refresh_random n i j + 1) = omega (arith, position 1, is.first_is, one_len, len) in
+    let second_at : second ≡ to (refresh_random n i j + 2) = omega (arith, position 2, is.second_is, two_len, one_len, len) in
     let left : slice_index regs i ≡ to (refresh_sum n i j) = so.current low in
     let kept : (s : ℕ) → (s ≡ i → ⊥) → slice_index (slice_set regs i first) s ≡ slice_index regs s = λ s other. get_or-set_other regs i s first 0 other in
     let right : slice_index (slice_set regs i first) j ≡ to (refresh_sum n j i) = kept j (λ e. omega (arith, e, less)) ∙ so.behind j less (omega arith) high in

@@ -143,7 +143,7 @@ refresh-step field maps n tape state i j before count order high number numbered
     let x : ℕ → ℕ = slice_index state in
     let r : ℕ → ℕ → ℕ = random_of n tape in
     let entries : List ℕ = refresh_entries n tape state before in
-    let place : ℕ = refresh_random n i j in
+    let position : ℕ = refresh_random n i j in
     let rest : List ℕ = drop (randoms (flat_map (refresh_pair n) before)) tape in
     let long : length entries ≡ n + 3 * length before = length-refresh_entries n tape state before count in
     let first : ℕ = share_sum (x i) (r i) i (suc j) in
@@ -160,14 +160,14 @@ refresh-step field maps n tape state i j before count order high number numbered
     refresh-sum_at n tape state before i j count numbered (omega (arith, order, high)) (omega (arith, high)) (subst (AreDone n i j) (sym number) (first-done n i j order high)) in
     let second_at : slice_index entries (refresh_sum n j i) ≡ share_sum (x j) (r j) j i =
     refresh-sum_at n tape state before j i count numbered high (omega (arith, order, high)) (subst (AreDone n j i) (sym number) (second-done n i j order high)) in
-    let random_at : (more : List ℕ) → slice_index (entries ++ (r i j ∷ more)) place ≡ r i j =
-    λ more. own entries (r i j ∷ more) place 0 (omega (arith, long, number)) in
-    let first_value : bit_xor (slice_index (entries ++ (r i j ∷ [])) (refresh_sum n i j)) (slice_index (entries ++ (r i j ∷ [])) place) ≡ first =
-    ap (λ (a : ℕ). bit_xor a (slice_index (entries ++ (r i j ∷ [])) place)) (old entries (r i j ∷ []) (refresh_sum n i j) first_below ∙ first_at)
+    let random_at : (more : List ℕ) → slice_index (entries ++ (r i j ∷ more)) position ≡ r i j =
+    λ more. own entries (r i j ∷ more) position 0 (omega (arith, long, number)) in
+    let first_value : bit_xor (slice_index (entries ++ (r i j ∷ [])) (refresh_sum n i j)) (slice_index (entries ++ (r i j ∷ [])) position) ≡ first =
+    ap (λ (a : ℕ). bit_xor a (slice_index (entries ++ (r i j ∷ [])) position)) (old entries (r i j ∷ []) (refresh_sum n i j) first_below ∙ first_at)
     ∙ ap (bit_xor (share_sum (x i) (r i) i j)) (random_at [])
     ∙ sym (share_sum-other (x i) (r i) i j (λ e. omega (arith, e, order))) in
-    let second_value : bit_xor (slice_index (entries ++ (r i j ∷ first ∷ [])) (refresh_sum n j i)) (slice_index (entries ++ (r i j ∷ first ∷ [])) place) ≡ second =
-    ap (λ (a : ℕ). bit_xor a (slice_index (entries ++ (r i j ∷ first ∷ [])) place)) (old entries (r i j ∷ first ∷ []) (refresh_sum n j i) second_below ∙ second_at)
+    let second_value : bit_xor (slice_index (entries ++ (r i j ∷ first ∷ [])) (refresh_sum n j i)) (slice_index (entries ++ (r i j ∷ first ∷ [])) position) ≡ second =
+    ap (λ (a : ℕ). bit_xor a (slice_index (entries ++ (r i j ∷ first ∷ [])) position)) (old entries (r i j ∷ first ∷ []) (refresh_sum n j i) second_below ∙ second_at)
     ∙ ap (bit_xor (share_sum (x j) (r j) j i)) (random_at (first ∷ []) ∙ sym (random_of-comm n tape i j order))
     ∙ sym (share_sum-other (x j) (r j) j i (λ e. omega (arith, e, order))) in
     let one : List ℕ → List ℕ = λ (es : List ℕ). run field maps (refresh_pair n (pair i j)) rest es in
@@ -175,8 +175,8 @@ refresh-step field maps n tape state i j before count order high number numbered
     ∙ run-append field maps (flat_map (refresh_pair n) before) (refresh_pair n (pair i j)) tape state
     ∙ ap one (ran ∙ sym (append-nil entries))
     ∙ run-next field maps Rnd _ rest entries [] (r i j) word
-    ∙ run-next field maps (Add (refresh_sum n i j) place) _ (drop 1 rest) entries (r i j ∷ []) first first_value
-    ∙ run-next field maps (Add (refresh_sum n j i) place) [] (drop 0 (drop 1 rest)) entries (r i j ∷ first ∷ []) second second_value
+    ∙ run-next field maps (Add (refresh_sum n i j) position) _ (drop 1 rest) entries (r i j ∷ []) first first_value
+    ∙ run-next field maps (Add (refresh_sum n j i) position) [] (drop 0 (drop 1 rest)) entries (r i j ∷ first ∷ []) second second_value
     ∙ run-done field maps _ (entries ++ (r i j ∷ first ∷ second ∷ []))
     ∙ append_assoc state (map (refresh_value x r) (flat_map refresh_labels_of before)) (r i j ∷ first ∷ second ∷ [])
     ∙ ap (λ (more : List ℕ). state ++ more) (sym (map-blocks-more (refresh_value x r) refresh_labels_of before (pair i j)))

@@ -151,7 +151,7 @@ views-equal field maps n free first second probes outs tape left right below ins
     let after : List ℕ = added (for_pairs n (move x y free)) tape in
     let u : List ℕ = run field maps (refresh_gadget n).instrs tape first in
     let v : List ℕ = run field maps (refresh_gadget n).instrs after second in
-    let place : ℕ → ℕ = λ s. refresh_sum n s n in
+    let position : ℕ → ℕ = λ s. refresh_sum n s n in
     let probed : (k : ℕ) → Contains probes k → slice_index u (length first + k) ≡ slice_index v (length first + k) =
     λ k held.
     let label : RefreshLabel = label_of n k in
@@ -166,9 +166,9 @@ views-equal field maps n free first second probes outs tape left right below ins
     let put : (o : ℕ) → Contains outs o → slice_index (observation (refresh_gadget n).outs u) o ≡ slice_index (observation (refresh_gadget n).outs v) o =
     λ o held.
     let low : o < n = below-held n outs o within held in
-    out-at place n o u low ∙ refresh-out field maps n tape first o left low
+    out-at position n o u low ∙ refresh-out field maps n tape first o left low
     ∙ output-kept n x y free tape o (shown o held) low below
-    ∙ sym (refresh-out field maps n after second o right low) ∙ sym (out-at place n o v low) in
+    ∙ sym (refresh-out field maps n after second o right low) ∙ sym (out-at position n o v low) in
     view-same (length first) (refresh_gadget n) probes outs u v probed put
     ∙ ap (λ (b : ℕ). block_view b (refresh_gadget n) probes outs v) (left ∙ sym right)
 

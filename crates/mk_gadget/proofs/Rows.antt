@@ -5,13 +5,13 @@ use Rattle.std.proofs.lemmas.List.{length-append, append-nil, get_or_append_left
 use Rattle.std.proofs.lemmas.List.FromFn.{length-map-range_with_len}
 use Rattle.mk_field.specs.declared.field.FieldId.{FieldId}
 use Rattle.mk_field.specs.declared.map.AddMap.{AddMap}
-use Rattle.mk_field.specs.Field.{size, product, square}
+use Rattle.mk_field.specs.Field.{size, product, square, image_by}
 use Rattle.mk_field.specs.Sharing.{field_sum}
 use Rattle.mk_field.proofs.Sum.{sum-in_field, sum-zero_right, zero-element}
 use Rattle.mk_code.specs.declared.instr.Instr.{Instr}
 use Rattle.mk_code.specs.declared.instr.Instr.TheVariants.{Rnd, Const, Copy, Add, Mul, Sq, Map}
 use Rattle.mk_code.specs.Listing.{FitsAt}
-use Rattle.mk_code.specs.Trace.{run, entry, takes, image_by}
+use Rattle.mk_code.specs.Trace.{run, entry, takes}
 use Rattle.mk_code.specs.Counting.{AllBelow}
 use Rattle.mk_code.specs.Private.{observation}
 use Rattle.mk_gadget.specs.Gadget.{Gadget, placed, placed_outs}
@@ -57,7 +57,7 @@ FitsAt-later field m len more (Mul left right) le fits = (omega (arith, le, fits
 FitsAt-later field m len more (Sq from) le fits = omega (arith, le, fits)
 FitsAt-later field m len more (Map map from) le fits = (fits.0, omega (arith, le, fits.1))
 
--- each instruction of a row reads only places below `len`, and takes no random element
+-- each instruction of a row reads only positions below `len`, and takes no random element
 abbrev pub Still : FieldId → ℕ → ℕ → (ℕ → Instr) → ℕ → ℕ → Type 0
 Still field m len row a n = (i : ℕ) → a ≤ i → i < a + n → FitsAt field m len (row i) × (takes (row i) ≡ 0)
 

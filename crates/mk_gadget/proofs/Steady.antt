@@ -8,11 +8,11 @@ use Rattle.std.proofs.Math.Nat.{mul-le-mul_left}
 use Rattle.std.proofs.Math.Dec.{eqb-suc-zero}
 use Rattle.mk_field.specs.declared.field.FieldId.{FieldId}
 use Rattle.mk_field.specs.declared.map.AddMap.{AddMap}
-use Rattle.mk_field.specs.Field.{size, product, square}
+use Rattle.mk_field.specs.Field.{size, product, square, image_by}
 use Rattle.mk_code.specs.declared.instr.Instr.{Instr}
 use Rattle.mk_code.specs.declared.instr.Instr.TheVariants.{Rnd, Const, Copy, Add, Mul, Sq, Map}
 use Rattle.mk_code.specs.Listing.{FitsAt}
-use Rattle.mk_code.specs.Trace.{run, randoms, takes, entry, image_by}
+use Rattle.mk_code.specs.Trace.{run, randoms, takes, entry}
 use Rattle.mk_code.specs.Counting.{one_if_equal, AllBelow}
 use Rattle.mk_code.specs.Private.{observation}
 use Rattle.mk_code.proofs.Totals.{total-same}
@@ -25,7 +25,7 @@ use Rattle.mk_gadget.specs.Steady.{block_view, block_ways, IsSteady}
 use Rattle.mk_gadget.proofs.Ranges.{observed-behind}
 use Rattle.mk_gadget.proofs.Rows.{Still, run-rows}
 
--- the instruction reads only places of these, and isn't random
+-- the instruction reads only positions of these, and isn't random
 abbrev pub ReadsOnly : (ℕ → Type 0) → Instr → Type 0
 ReadsOnly Own Rnd = ⊥
 ReadsOnly Own (Const value) = Unit {0}
@@ -35,7 +35,7 @@ ReadsOnly Own (Mul left right) = Own left × Own right
 ReadsOnly Own (Sq from) = Own from
 ReadsOnly Own (Map map from) = Own from
 
--- a place of share i of an operand, or behind the shares
+-- a position of share i of an operand, or behind the shares
 abbrev pub IsOfShare : ℕ → ℕ → ℕ → ℕ → Type 0
 IsOfShare n m i q = ((k : ℕ) × (k < m) × (q ≡ n * k + i)) ⊎ (n * m ≤ q)
 
@@ -61,7 +61,7 @@ share-inside n m k i first below =
     let step : n * (k + 1) ≤ n * m = mul-le-mul_left n (omega (arith, first)) in
     omega (arith, step, below)
 
--- states with the same share i of each operand and the same publics are the same at its places
+-- states with the same share i of each operand and the same publics are the same at its positions
 same-at : (n m i : ℕ) (first second publics : List ℕ) → i < n → length first ≡ n * m → length second ≡ n * m
     → ((k : ℕ) → k < m → slice_index first (n * k + i) ≡ slice_index second (n * k + i))
     → (q : ℕ) → IsOfShare n m i q → slice_index (first ++ publics) q ≡ slice_index (second ++ publics) q
@@ -90,7 +90,7 @@ below-held n [] i below held = absurd (omega (arith, held.1))
 below-held n (x ∷ xs) i below (zero, inside, here) = omega (arith, below.0, here)
 below-held n (x ∷ xs) i below (suc k, inside, here) = below-held n xs i below.1 (k, omega (arith, inside), here)
 
--- the values of a row are seen at the places behind the entries
+-- the values of a row are seen at the positions behind the entries
 seen-behind : (f : ℕ → ℕ) (n : ℕ) (entries probes : List ℕ) → AllBelow n probes
     → observation (map (λ k. length entries + k) probes) (entries ++ map f (range_with_len 0 n)) ≡ map f probes
 unfolding AllBelow
@@ -128,7 +128,7 @@ rows-view field maps j n b row tape state probes outs len still inside within =
     ∙ ap (λ (xs : List ℕ). map f probes ++ observation outs xs) bank
     ∙ ap (λ (xs : List ℕ). map f probes ++ xs) (seen-row f n outs within)
 
--- a gadget of n rows, of which row i reads share i of the operands and public places alone, is steady: what
+-- a gadget of n rows, of which row i reads share i of the operands and public positions alone, is steady: what
 -- is asked for are the numbers of the probed rows
 pub rows-steady : (field : FieldId) (maps : List AddMap) (j n m p b : ℕ) (row : ℕ → Instr) → b ≡ n * m + p
     → Still field j b row 0 n → ((i : ℕ) → i < n → ReadsOnly (IsOfShare n m i) (row i))

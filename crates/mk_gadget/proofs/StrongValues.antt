@@ -18,7 +18,7 @@ use Rattle.mk_gadget.specs.Gadget.{Gadget, placement, placed, placed_outs}
 use Rattle.mk_gadget.specs.Emitted.{Gives, shared_at}
 use Rattle.mk_gadget.specs.Pairs.{pairs, pair_number}
 use Rattle.mk_gadget.specs.Refresh.{refresh_sum, refresh_gadget}
-use Rattle.mk_gadget.specs.Product.{sum_place, product_gadget}
+use Rattle.mk_gadget.specs.Product.{sum_position, product_gadget}
 use Rattle.mk_gadget.proofs.Ranges.{map-range-same, map-map-range}
 use Rattle.mk_code.proofs.Steps.{AllBelow-at}
 use Rattle.mk_gadget.proofs.Rows.{field_sum-additive}
@@ -29,7 +29,7 @@ use Rattle.mk_gadget.proofs.Blocks.{old, own}
 use Rattle.mk_gadget.proofs.ShareSums.{share_sum, share_sum-none, share_sum-all, share_sums-same, sum_upto, sum_upto-same}
 use Rattle.mk_gadget.proofs.RefreshRun.{random_of, random_of-comm, refresh_sum-below, all-done, refresh-fits, length-refresh, refresh-out}
 use Rattle.mk_gadget.proofs.ProductRun.{Sum, product_value, cell_value, cells-pair}
-use Rattle.mk_gadget.proofs.ProductRows.{product-fits, length-product, product-out, sum_place-inside}
+use Rattle.mk_gadget.proofs.ProductRows.{product-fits, length-product, product-out, sum_position-inside}
 
 -- the out bank of a placed gadget, share by share
 placed-bank : (field : FieldId) (maps : List AddMap) (gadget : Gadget) (count n : ℕ) (share : ℕ → ℕ) (reads tape entries : List ℕ)
@@ -41,8 +41,8 @@ placed-bank field maps gadget count n share reads tape entries below fit outs in
     let to : ℕ → ℕ = placement reads (length entries) in
     let after : List ℕ = run field maps (placed reads (length entries) gadget) tape entries in
     let alone : List ℕ = run field maps gadget.instrs tape (observation reads entries) in
-    ap (λ (places : List ℕ). observation (map to places) after) outs
-    ∙ ap (λ (places : List ℕ). observation places after) (map-map-range to share 0 n)
+    ap (λ (positions : List ℕ). observation (map to positions) after) outs
+    ∙ ap (λ (positions : List ℕ). observation positions after) (map-map-range to share 0 n)
     ∙ map-map-range (λ (p : ℕ). slice_index after p) (λ (s : ℕ). to (share s)) 0 n
     ∙ map-range-same (λ s. slice_index after (to (share s))) (λ s. slice_index alone (share s)) 0 n
     (λ s low high. (PlacedLaw-holds field maps).entry gadget count (share s) reads tape entries below fit (inside s (omega (arith, high))))
@@ -114,10 +114,10 @@ product-gives field maps n base xs ys left right here there tape entries len ele
     (AllBelow-at (size field) entries (slice_index reads k) elements (AllBelow-at (length entries) reads k below (omega (arith, low, count)))) in
     let seen : observation (placed_outs reads base (product_gadget n)) (run field maps (placed reads base (product_gadget n)) tape entries) ≡ map share (range_with_len 0 n) =
     subst (λ (b : ℕ). observation (placed_outs reads b (product_gadget n)) (run field maps (placed reads b (product_gadget n)) tape entries) ≡ map share (range_with_len 0 n)) len
-    (placed-bank field maps (product_gadget n) 0 n (λ s. sum_place n s n) reads tape entries below
+    (placed-bank field maps (product_gadget n) 0 n (λ s. sum_position n s n) reads tape entries below
     (subst (λ (k : ℕ). AllFit field 0 k (product_gadget n).instrs) (sym count) (product-fits field 0 n)) refl
-    (λ s low. omega (arith, sum_place-inside n s low, count, length-product n))
-    ∙ map-range-same (λ s. slice_index (run field maps (product_gadget n).instrs tape state) (sum_place n s n)) share 0 n
+    (λ s low. omega (arith, sum_position-inside n s low, count, length-product n))
+    ∙ map-range-same (λ s. slice_index (run field maps (product_gadget n).instrs tape state) (sum_position n s n)) share 0 n
     (λ s low high. product-out field maps n tape state s shares (omega (arith, high)))) in
     let left_sum : sum_upto n x ≡ shared_at xs entries =
     sum_upto-same n x (slice_index (observation xs entries))

@@ -6,14 +6,14 @@ use Rattle.std.proofs.lemmas.Bool.{lt-ltb}
 use Rattle.std.proofs.Math.Dec.{eqb-suc-zero}
 use Rattle.mk_field.specs.declared.field.FieldId.{FieldId}
 use Rattle.mk_field.specs.declared.map.AddMap.{AddMap}
-use Rattle.mk_field.specs.Field.{size, product, square}
+use Rattle.mk_field.specs.Field.{size, product, square, image_by}
 use Rattle.mk_field.specs.Sharing.{field_sum}
 use Rattle.mk_field.proofs.Sum.{sum-zero_right, zero-element}
 use Rattle.mk_field.proofs.Product.{product-sum_left, product-zero_left, square-sum, image-sum, image-zero}
 use Rattle.mk_code.specs.declared.instr.Instr.{Instr}
 use Rattle.mk_code.specs.declared.instr.Instr.TheVariants.{Const, Copy, Add, Mul, Sq, Map}
 use Rattle.mk_code.specs.Listing.{FitsAt}
-use Rattle.mk_code.specs.Trace.{entry, takes, image_by}
+use Rattle.mk_code.specs.Trace.{entry, takes}
 use Rattle.mk_code.specs.Counting.{AllBelow}
 use Rattle.mk_gadget.specs.Gadget.{placement, moved, placed}
 use Rattle.mk_gadget.specs.Emitted.{Gives, shared_at}
@@ -48,11 +48,11 @@ abbrev pub lift-row : ℕ → ℕ → Instr
 lift-row p zero = Copy p
 lift-row p (suc i) = Const 0
 
--- a place of the only operand stands where it is
+-- a position of the only operand stands where it is
 pub placement-only : (xs : List ℕ) (base i : ℕ) → i < length xs → placement xs base i ≡ slice_index xs i
 placement-only xs base i below = rw (lt-ltb i (length xs) below) refl
 
--- the place of the public operand behind a shared one
+-- the position of the public operand behind a shared one
 pub placement-public : (xs : List ℕ) (p base n : ℕ) → length xs ≡ n → placement (xs ++ p ∷ []) base n ≡ p
 placement-public xs p base n count =
     let inside : n < length (xs ++ p ∷ []) = omega (arith, length-append xs (p ∷ []), count) in
@@ -66,11 +66,11 @@ outs-behind reads base k n count =
     (λ i low high. placement-own reads base i (omega (arith, low, count)) ∙ ap (λ (j : ℕ). base + (i - j)) count)
     ∙ range-moved k base n
 
--- two banks of n shares have 2 n places
+-- two banks of n shares have 2 n positions
 pub two-banks : (xs ys : List ℕ) (n : ℕ) → length xs ≡ n → length ys ≡ n → length (xs ++ ys) ≡ 2 * n
 two-banks xs ys n left right = omega (arith, length-append xs ys, left, right)
 
--- a bank of n shares and a public place have n + 1 places
+-- a bank of n shares and a public position have n + 1 positions
 pub bank-and-one : (xs : List ℕ) (p n : ℕ) → length xs ≡ n → length (xs ++ p ∷ []) ≡ n + 1
 bank-and-one xs p n count = omega (arith, length-append xs (p ∷ []), count)
 
@@ -149,15 +149,15 @@ lift-placed (suc n) base p least =
     ap (λ (k : ℕ). Copy p ∷ map (moved (placement (p ∷ []) base)) (replicate k (Const 0))) rest
     ∙ ap (λ (xs : List Instr). Copy p ∷ xs) (lift-zeros (placement (p ∷ []) base) p 1 n (omega arith))
 
--- what stands at the place of a share
+-- what stands at the position of a share
 abbrev at : List ℕ → List ℕ → ℕ → ℕ
 at entries xs i = slice_index entries (slice_index xs i)
 
--- what stands at the places of the shares has the shared value as sum
+-- what stands at the positions of the shares has the shared value as sum
 at-sum : (entries xs : List ℕ) (n : ℕ) → length xs ≡ n → field_sum (map (at entries xs) (range_with_len 0 n)) ≡ shared_at xs entries
 at-sum entries xs n count = ap field_sum (sym (observed-by_index entries xs n count))
 
--- what stands at the place of a share is an element of the field
+-- what stands at the position of a share is an element of the field
 at-element : (field : FieldId) (entries xs : List ℕ) (n base : ℕ) → length xs ≡ n → AllBelow base xs → length entries ≡ base → AllBelow (size field) entries
     → (i : ℕ) → 0 ≤ i → i < 0 + n → at entries xs i < size field
 at-element field entries xs n base count here len elements i low high =
@@ -244,7 +244,7 @@ lift-still : (field : FieldId) (base p : ℕ) → p < base → (i : ℕ) → Fit
 lift-still field base p there zero = (there, refl)
 lift-still field base p there (suc i) = (zero-element field, refl)
 
--- such a row has the public value in the first place, and zero in the others
+-- such a row has the public value in the first position, and zero in the others
 lift-entry : (field : FieldId) (maps : List AddMap) (entries : List ℕ) (p i : ℕ) → entry field maps (lift-row p i) 0 entries ≡ first (slice_index entries p) i
 lift-entry field maps entries p zero = refl
 lift-entry field maps entries p (suc i) = refl

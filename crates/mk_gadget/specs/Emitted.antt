@@ -10,15 +10,15 @@ use Rattle.mk_code.specs.Private.{observation}
 use Rattle.mk_code.specs.Trace.{run}
 use Rattle.mk_gadget.specs.Gadget.{Gadget, placed, placed_outs}
 
--- the gadget was placed behind the instructions, reading these places; these are the places of its out
+-- the gadget was placed behind the instructions, reading these positions; these are the positions of its out
 -- bank; and all else is as before, but for the room that is reserved
 pub record Emitted (old new : Draft) (reads : List ℕ) (gadget : Gadget) (bank : List ℕ) : Type 0 where
   pub code : new ≡ record old { instrs = old.instrs ++ placed reads (draft_len old) gadget; spare = new.spare }
   pub outs : bank ≡ placed_outs reads (draft_len old) gadget
 
--- the value whose shares stand at these places
+-- the value whose shares stand at these positions
 abbrev pub shared_at : List ℕ → List ℕ → ℕ
-shared_at places entries = field_sum (observation places entries)
+shared_at positions entries = field_sum (observation positions entries)
 
 -- the gadget placed at `base`: behind any entries that many, elements of the field, and over any tape its
 -- out bank is n shares of the value

@@ -105,7 +105,7 @@ pub scaling-13-57 : block_ways Gf256 [] (scaling 2) (0x57 ∷ 0x01 ∷ 0x13 ∷ 
 unfolding randoms run total one_if_equal sum_bits
 scaling-13-57 = refl
 
--- a public value at place 2 is added to the shares at 5 and 6, by the instructions from 9 on
+-- a public value at position 2 is added to the shares at 5 and 6, by the instructions from 9 on
 pub public_addition-placed : placed (5 ∷ 6 ∷ 2 ∷ []) 9 (public_addition 2) ≡ Add 5 2 ∷ Copy 6 ∷ []
 public_addition-placed = refl
 

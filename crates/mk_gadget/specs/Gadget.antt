@@ -3,18 +3,18 @@ use Rattle.std.specs.Prelude.{ℕ, ◌+◌, ◌-◌, List, map, length, nat_lt, 
 use Rattle.mk_code.specs.declared.instr.Instr.{Instr}
 use Rattle.mk_code.specs.declared.instr.Instr.TheVariants.{Rnd, Const, Copy, Add, Mul, Sq, Map}
 
--- instructions over places of their own: first the shares of the shared operands, operand by operand,
--- then the public operands, then one place for each instruction; and the places of the out bank
+-- instructions over positions of their own: first the shares of the shared operands, operand by operand,
+-- then the public operands, then one position for each instruction; and the positions of the out bank
 pub record Gadget : Type 0 where
   pub instrs : List Instr
   pub outs : List ℕ
 
--- where a place of a gadget stands in a code: those of its operands at `reads`, its own from `base` on
+-- where a position of a gadget stands in a code: those of its operands at `reads`, its own from `base` on
 abbrev pub placement : List ℕ → ℕ → ℕ → ℕ
-placement reads base place =
-    if nat_lt place (length reads) then slice_index reads place else base + (place - length reads)
+placement reads base position =
+    if nat_lt position (length reads) then slice_index reads position else base + (position - length reads)
 
--- an instruction with its places moved
+-- an instruction with its positions moved
 abbrev pub moved : (ℕ → ℕ) → Instr → Instr
 moved to Rnd = Rnd
 moved to (Const value) = Const value

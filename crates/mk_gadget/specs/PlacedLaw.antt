@@ -16,17 +16,17 @@ abbrev pub placed_view : List ℕ → ℕ → Gadget → List ℕ → List ℕ �
 placed_view reads base gadget probes outs entries =
     observation (map (λ k. base + k) probes) entries ++ observation outs (observation (placed_outs reads base gadget) entries)
 
--- behind entries that have the places `reads`, a gadget whose instructions fit behind that many places, with
--- `count` maps, is placed. Over any tape, the entry where a place of the gadget stands is the one that the
--- gadget has at this place alone, run on the state that the entries hold at `reads`: `entry` for one place,
+-- behind entries that have the positions `reads`, a gadget whose instructions fit behind that many positions, with
+-- `count` maps, is placed. Over any tape, the entry where a position of the gadget stands is the one that the
+-- gadget has at this position alone, run on the state that the entries hold at `reads`: `entry` for one position,
 -- `view` for the instructions and shares of the out bank that an observer sees, and `ways` for the number of
 -- tapes that show him these values. It has as many instructions and takes as many random elements as alone
 pub record PlacedLaw (field : FieldId) (maps : List AddMap) : Type 0 where
-  pub entry : (gadget : Gadget) (count place : ℕ) (reads tape entries : List ℕ)
+  pub entry : (gadget : Gadget) (count position : ℕ) (reads tape entries : List ℕ)
       → AllBelow (length entries) reads → AllFit field count (length reads) gadget.instrs
-      → place < length reads + length gadget.instrs
-      → slice_index (run field maps (placed reads (length entries) gadget) tape entries) (placement reads (length entries) place)
-      ≡ slice_index (run field maps gadget.instrs tape (observation reads entries)) place
+      → position < length reads + length gadget.instrs
+      → slice_index (run field maps (placed reads (length entries) gadget) tape entries) (placement reads (length entries) position)
+      ≡ slice_index (run field maps gadget.instrs tape (observation reads entries)) position
   pub view : (gadget : Gadget) (count : ℕ) (reads tape entries probes outs : List ℕ)
       → AllBelow (length entries) reads → AllFit field count (length reads) gadget.instrs
       → AllBelow (length gadget.instrs) probes → AllBelow (length reads + length gadget.instrs) gadget.outs

@@ -8,7 +8,7 @@ use Rattle.mk_code.specs.Counting.{total, one_if_equal, AllBelow, Elements}
 use Rattle.mk_code.specs.Private.{observation}
 use Rattle.mk_gadget.specs.Gadget.{Gadget}
 
--- what an observer of a gadget's run, whose operands have `base` places, sees: the values of the
+-- what an observer of a gadget's run, whose operands have `base` positions, sees: the values of the
 -- instructions with these numbers, and then the shares of the out bank with these indexes
 abbrev pub block_view : ℕ → Gadget → List ℕ → List ℕ → List ℕ → List ℕ
 block_view base gadget probes outs entries =

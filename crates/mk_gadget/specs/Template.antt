@@ -13,7 +13,7 @@ use Rattle.mk_gadget.specs.Refresh.{refresh_gadget}
 abbrev pub single : ℕ → Instr → Gadget
 single p instr = record { instrs = instr ∷ []; outs = p ∷ [] }
 
--- one instruction for each of n shares, behind p operand places
+-- one instruction for each of n shares, behind p operand positions
 abbrev pub rows : ℕ → ℕ → (ℕ → Instr) → Gadget
 rows n p row = record { instrs = map row (range_with_len 0 n); outs = range_with_len p n }
 

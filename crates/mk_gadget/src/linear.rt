@@ -3,10 +3,9 @@
 ghost use Rattle.std.specs.Prelude.{◌≡◌, ◌≤◌, ◌<◌, ◌+◌, ◌++◌, List, [], ◌∷◌, length, bit_xor, slice_index, IfOk, OnErr};
 ghost use Rattle.mk_code.specs.declared.TheConstants.{MOST_INSTRS};
 ghost use Rattle.mk_field.specs.declared.map.AddMap.{AddMap};
-ghost use Rattle.mk_field.specs.Field.{product, square};
+ghost use Rattle.mk_field.specs.Field.{product, square, image_by};
 ghost use Rattle.mk_code.specs.Counting.{AllBelow};
 ghost use Rattle.mk_code.specs.Draft.{draft_len};
-ghost use Rattle.mk_code.specs.Trace.{image_by};
 ghost use Rattle.mk_gadget.specs.Emitted.{Emitted, Gives, shared_at};
 ghost use Rattle.mk_gadget.specs.Steady.{IsSteady};
 ghost use Rattle.mk_gadget.specs.Template.{addition, public_addition, scaling, squaring, mapping, lift};
@@ -16,9 +15,9 @@ use mk_code::{CodeBuilder, Instr};
 use mk_field::Field;
 use mk_share::Bank;
 
-/// There are `N` places. It does nothing.
-pub(crate) fn count_law<const N: usize>(places: &[u32; N])
-    ensures { length places.now ≡ N }
+/// There are `N` positions. It does nothing.
+pub(crate) fn count_law<const N: usize>(positions: &[u32; N])
+    ensures { length positions.now ≡ N }
 {}
 
 /// Appends the sum of two shared values, and answers its bank. After `Memory` the code is as before.

@@ -9,7 +9,7 @@ ghost use Rattle.mk_code.specs.Draft.{draft_len};
 ghost use Rattle.mk_gadget.specs.Emitted.{Emitted, Gives, shared_at};
 ghost use Rattle.mk_gadget.specs.Pairs.{pairs, pairs_upto};
 ghost use Rattle.mk_gadget.specs.Product.{product_gadget};
-ghost use Rattle.mk_gadget.specs.Product as places;
+ghost use Rattle.mk_gadget.specs.Product as positions;
 ghost use Rattle.mk_gadget.specs.Refresh.{refresh_gadget};
 ghost use Rattle.mk_gadget.specs.Steady.{IsStrong};
 
@@ -29,34 +29,34 @@ fn pairs_before<const N: usize>(share: usize) -> usize
     share * (2 * N - share - 1) / 2
 }
 
-/// The place of the first instruction of two shares, in a product whose first instruction has the place
+/// The position of the first instruction of two shares, in a product whose first instruction has the position
 /// `first`.
-fn pair_place<const N: usize>(first: u32, low: usize, high: usize) -> u32
+fn pair_position<const N: usize>(first: u32, low: usize, high: usize) -> u32
     requires least { 2 ≤ N }
     requires most { N ≤ 4096 }
     requires order { low < high }
     requires within { high < N }
     requires fits { first + 5 * length (pairs N) < 2 ^ 32 }
-    ensures { 2 * N + result ≡ first + places.pair_place N low high }
+    ensures { 2 * N + result ≡ first + positions.pair_position N low high }
 {
     let pair = pairs_before::<N>(low) + (high - low - 1);
     first + 5 * pair as u32
 }
 
-/// The place of a cell, in such a product.
-fn cell_place<const N: usize>(first: u32, row: usize, column: usize) -> u32
+/// The position of a cell, in such a product.
+fn cell_position<const N: usize>(first: u32, row: usize, column: usize) -> u32
     requires least { 2 ≤ N }
     requires most { N ≤ 4096 }
     requires row { row < N }
     requires column { column < N }
     requires other { row ≢ column }
     requires fits { first + 5 * length (pairs N) < 2 ^ 32 }
-    ensures { 2 * N + result ≡ first + places.cell_place N row column }
+    ensures { 2 * N + result ≡ first + positions.cell_position N row column }
 {
     if row < column {
-        pair_place::<N>(first, row, column)
+        pair_position::<N>(first, row, column)
     } else {
-        pair_place::<N>(first, column, row) + 4
+        pair_position::<N>(first, column, row) + 4
     }
 }
 
@@ -152,7 +152,7 @@ pub fn emit_mul<F: Field, const N: usize>(
                 if column != $row {
                     sum = builder.push(Instr::Add {
                         left: sum,
-                        right: cell_place::<N>(first, $row, column),
+                        right: cell_position::<N>(first, $row, column),
                     });
                 }
             }

@@ -8,7 +8,8 @@ use Rattle.mk_types.specs.Stops.{work, operations}
 use Rattle.mk_unroll.proofs.IndexUnits.{operations-append, work-append}
 use Rattle.mk_gen.proofs.Tree.{generated_tree}
 use Rattle.mk_gen.proofs.Turns.{turn_work, turns_work, loop_units}
-use Rattle.mk_gen.proofs.Faultless.{IsNoFault, faultless_whole}
+use Rattle.mk_types.proofs.Faults.{IsNoFault}
+use Rattle.mk_gen.proofs.Faultless.{faultless_whole}
 
 -- they have no fault
 turns_faultless : (turns : ℕ) → AllByRecursion IsNoFault (turns_work turns)

@@ -5,13 +5,8 @@ use Rattle.std.proofs.lemmas.Bool.{lt-leb}
 use Rattle.std.proofs.lemmas.List.Sums.{sum_by-cons}
 use Rattle.mk_types.specs.Units.{WorkUnit, Step, Operation, Fault, up_to_fault}
 use Rattle.mk_types.specs.Stops.{Work, Operations, is_work, is_operation, work, operations, earlier, event, stop_behind, stop}
+use Rattle.mk_types.proofs.Faults.{IsNoFault}
 use Rattle.mk_unroll.proofs.IndexUnits.{operations-append, work-append}
-
--- a unit that is no fault
-abbrev pub IsNoFault : WorkUnit → Type 0
-IsNoFault Step = Unit {0}
-IsNoFault Operation = Unit {0}
-IsNoFault (Fault at) = ⊥
 
 -- the units end with the last
 pub faultless_whole : (us : List WorkUnit) → AllByRecursion IsNoFault us → up_to_fault us ≡ us

@@ -16,6 +16,7 @@ module _ (text after_field after_map after_secret after_local after_output : Lis
     (secret_is : after_secret ≡ after_map ++ ended (codes "secret x[16];"))
     (local_is : after_local ≡ after_secret ++ ended (codes "local secret a;"))
     (output_is : after_output ≡ after_local ++ ended (codes "output y[16];")) where
+  -- the declarations are written behind the line of the output
   pub declarations_written : after_output ≡ text ++ flat_map ended declaration_lines
   declarations_written =
       let field : List ℕ = codes "field gf256;" in
@@ -35,6 +36,7 @@ module _ (n : ℕ) (text after_declarations after_head after_first after_second 
     (first_is : after_first ≡ after_head ++ ended (codes "  a = x[i % 16] + y[5 * i % 16];"))
     (second_is : after_second ≡ after_first ++ ended (codes "  y[i % 16] = a * m(a) + sq(y[(i + 1) % 16]);"))
     (end_is : after_all ≡ after_second ++ ended (codes "}")) where
+  -- so the whole source is
   pub generated_written : after_all ≡ text ++ generated n
   generated_written =
       let head : List ℕ = codes "for i in 0.." ++ decimal n ++ codes " {" in

@@ -13,7 +13,8 @@ use Rattle.mk_gen.specs.Generated.{generated, IsGenerated}
 use Rattle.mk_gen.proofs.Tree.{generated_tree, generated_canonical}
 use Rattle.mk_gen.proofs.Regularity.{generated_regular}
 use Rattle.mk_gen.proofs.Turns.{tree_well_typed}
-use Rattle.mk_gen.proofs.Faultless.{IsNoFault, faultless_ends}
+use Rattle.mk_types.proofs.Faults.{IsNoFault}
+use Rattle.mk_gen.proofs.Faultless.{faultless_ends}
 use Rattle.mk_gen.proofs.Counted.{tree_work, tree_units, tree_faultless, tree_is_work, tree_operations, tree_elements}
 use Rattle.mk_gen.proofs.AlikeUnits.{placeless_units, units_alike, elements_alike}
 use Rattle.mk_gen.proofs.AlikeOffences.{placeless_offences, offences_alike}

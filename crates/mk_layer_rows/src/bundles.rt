@@ -1,9 +1,13 @@
 //! Bundle texts: they are written as they were read, and the first wrong line is named.
-ghost use Rattle.std.specs.Prelude.{IfOk};
+ghost use Rattle.std.specs.Prelude.{◌≡◌, ◌≤◌, IfOk, IsTrue, ◌↔◌};
 ghost use Rattle.mk_rules.specs.Pairs.{IsPair};
+ghost use Rattle.mk_bundle.specs.declared.event.Event.TheVariants as event;
 
-use mk_base::Memory;
-use mk_bundle::{BundleRefusal, MOST_BYTES, read_bundle, to_text};
+use mk_base::{Failed, MemSink, MemSource, Memory};
+use mk_bundle::{
+    BundleReader, BundleRefusal, Event, MOST_BYTES, StreamRefusal, collect_bundle, read_bundle,
+    to_text, write_bundle,
+};
 use mk_rules::Bundle;
 use std::alloc::Global;
 use std::test::*;
@@ -112,5 +116,106 @@ fn maps_are_read_up_to_their_limit(rt: HostRuntime) -> Result<(), Memory> {
     assert!(rt; read(rt.alloc(), most.as_str()).is_ok());
     let more = maps(rt.alloc(), 32_769)?;
     assert_eq!(rt; named(rt.alloc(), more.as_str()), 32_774);
+    Ok(())
+}
+
+/// The sum of two secrets.
+const SUM: &str =
+    "mask 1\nfield gf256\norder 1\nsecrets 2\npublics 0\nblock add s0 s1\nclaim b0\ncode\nadd 0 2\nadd 1 3\nout 4 5\nend\n";
+
+/// Its lines but the last.
+const SUM_CUT: &str =
+    "mask 1\nfield gf256\norder 1\nsecrets 2\npublics 0\nblock add s0 s1\nclaim b0\ncode\nadd 0 2\nadd 1 3\nout 4 5\n";
+
+/// A claim and an output twice.
+const SUM_TWICE: &str =
+    "mask 1\nfield gf256\norder 1\nsecrets 2\npublics 0\nblock add s0 s1\nclaim b0\nclaim b0\ncode\nadd 0 2\nadd 1 3\nout 4 5\nout 4 5\nend\n";
+
+/// Whether it is the last event.
+fn is_last(answered: &Event) -> bool
+    ensures { IsTrue result ↔ (answered.now ≡ event.End) }
+{
+    matches!(answered, Event::End)
+}
+
+/// How many events a text has, of which at most `most` bytes come at once.
+fn events(alloc: Global, text: &str, most: usize) -> Result<u32, StreamRefusal>
+    requires { 1 ≤ most }
+{
+    let mut source = MemSource::new(alloc, text.as_bytes(), most, &[])?;
+    let mut reader = BundleReader::new(alloc, MOST_BYTES)?;
+    let mut count = 0u32;
+    loop {
+        let answered = reader.next(&mut source)?;
+        count = count.saturating_add(1);
+        if is_last(&answered) {
+            return Ok(count);
+        }
+    }
+}
+
+#[test]
+fn events_come_one_by_one(rt: HostRuntime) {
+    for (text, most, count) in [
+        (SUM, 1, 8),
+        (SUM_TWICE, 1, 10),
+        (KINDS, 1, 27),
+        (KINDS, 2, 27),
+        (KINDS, 3, 27),
+        (KINDS, 4096, 27),
+    ] {
+        assert_eq!(rt; events(rt.alloc(), text, most), Ok(count));
+    }
+}
+
+/// Why a text is not collected of a source that fails at these calls.
+fn refused(alloc: Global, text: &str, fail: &[u32], limit: u32) -> Option<StreamRefusal> {
+    let mut source = match MemSource::new(alloc, text.as_bytes(), 4096, fail) {
+        Ok(source) => source,
+        Err(_) => return Some(StreamRefusal::Memory),
+    };
+    match &collect_bundle(alloc, &mut source, limit) {
+        Ok(_) => None,
+        Err(refusal) => Some(*refusal),
+    }
+}
+
+#[test]
+fn sources_are_refused(rt: HostRuntime) {
+    // A number of 200 digits, a line that lacks its end, and bytes behind the last line.
+    let long =
+        "mask 1\nfield gf2\norder 1\nsecrets 11111111111111111111111111111111111111111111111111111111111111111111111111111111111111111111111111111111111111111111111111111111111111111111111111111111111111111111111111111111\n";
+    let inside = "mask 1\nfield gf2\norder 1\nsecrets 0\npublics 0\ncode\nen";
+    let behind = "mask 1\nfield gf2\norder 1\nsecrets 0\npublics 0\ncode\nend\nend\n";
+    for (text, fail, limit, wanted) in [
+        (SUM_CUT, 2, MOST_BYTES, Some(StreamRefusal::Fault)),
+        (
+            SUM_CUT,
+            0,
+            MOST_BYTES,
+            Some(StreamRefusal::Form { line: 12 }),
+        ),
+        (long, 0, MOST_BYTES, Some(StreamRefusal::Form { line: 4 })),
+        (inside, 0, MOST_BYTES, Some(StreamRefusal::Form { line: 7 })),
+        (behind, 0, MOST_BYTES, Some(StreamRefusal::Form { line: 8 })),
+        // A limit inside the last line, at its line feed, and behind it.
+        (SUM, 0, 103, Some(StreamRefusal::TooLong)),
+        (SUM, 0, 104, Some(StreamRefusal::TooLong)),
+        (SUM, 0, 105, None),
+    ] {
+        assert_eq!(rt; refused(rt.alloc(), text, &[fail], limit), wanted);
+    }
+}
+
+#[test]
+fn a_sink_that_fails_took_a_prefix(rt: HostRuntime) -> Result<(), Fail> {
+    let bundle = read(rt.alloc(), SUM).ok().ok_or("the text is a bundle's")?;
+    for (fail, wanted, taken) in [(0, Ok(()), 105), (3, Err(Failed), 14)] {
+        let mut sink = MemSink::new(rt.alloc(), 4096, 7, &[fail])
+            .ok()
+            .ok_or("there is memory")?;
+        assert_eq!(rt; write_bundle(&mut sink, &bundle.code, &bundle.cert), wanted);
+        assert_eq!(rt; sink.taken().len(), taken);
+    }
     Ok(())
 }

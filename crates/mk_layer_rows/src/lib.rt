@@ -11,6 +11,8 @@ mod compiled;
 #[cfg(test)]
 mod counted;
 #[cfg(test)]
+mod gadgets;
+#[cfg(test)]
 mod parsed;
 #[cfg(test)]
 mod placed;

@@ -19,7 +19,7 @@ use Rattle.mk_lines.specs.Words.{operand_word, is_line}
 use Rattle.mk_field.specs.Digits.{hex_byte, hex_digit}
 use Rattle.mk_lines.specs.CertLines.{pair_words, mapped_words}
 use Rattle.mk_ssa.specs.Widths.{OperandFits, OpFits}
-use Rattle.mk_lines.specs.CodeLines.{place_word}
+use Rattle.mk_lines.specs.CodeLines.{position_word}
 use Rattle.mk_base.proofs.Digits.{own}
 use Rattle.mk_lines.proofs.Spelled.{number_words}
 use Rattle.mk_lines.proofs.Variants.{op_words, instr_words, InstrFits}
@@ -135,10 +135,10 @@ pub is_line-images : (images : List ℕ) → is_line (flat_map hex_byte images) 
 is_line-images [] = refl
 is_line-images (i ∷ is) = is_line-append (hex_byte i) (flat_map hex_byte is) (is_line-hex i) (is_line-images is)
 
--- no line feed stands in the words of places
-pub is_line-places : (places : List ℕ) → AllByRecursion (λ p. p < 2 ^ 32) places → is_line (flat_map place_word places) ≡ true
-is_line-places [] all = refl
-is_line-places (p ∷ ps) all = is_line-append (place_word p) (flat_map place_word ps) (is_line-decimal p all.0) (is_line-places ps all.1)
+-- no line feed stands in the words of positions
+pub is_line-positions : (positions : List ℕ) → AllByRecursion (λ p. p < 2 ^ 32) positions → is_line (flat_map position_word positions) ≡ true
+is_line-positions [] all = refl
+is_line-positions (p ∷ ps) all = is_line-append (position_word p) (flat_map position_word ps) (is_line-decimal p all.0) (is_line-positions ps all.1)
 
 -- no line feed stands in the word of an operand
 pub is_line-operand : (operand : Operand) → OperandFits operand → is_line (operand_word operand) ≡ true

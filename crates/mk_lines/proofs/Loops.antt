@@ -4,7 +4,7 @@ use Rattle.std.specs.Prelude.{codes, MatchOption}
 use Rattle.std.specs.Borrow.{Bor}
 use Rattle.std.proofs.lemmas.Bool.{lt-ltb, le-ltb}
 use Rattle.std.proofs.lemmas.List.{append-nil}
-use Rattle.mk_lines.specs.Parsing.{◌>>=◌, Tells, after, whole, number_at, hex_at, images_at, places_of}
+use Rattle.mk_lines.specs.Parsing.{◌>>=◌, Tells, after, whole, number_at, hex_at, images_at, positions_of}
 use Rattle.mk_lines.proofs.Steps.{after_found, after_again}
 
 -- a front that is there or not
@@ -54,59 +54,59 @@ images_done front n rest total none so_far =
     let one : (images_at n rest >>= fronted front) ≡ Some (front, rest) = rw none (ap (λ (all : List ℕ). Some (all, rest)) (append-nil front)) in
     sym so_far ∙ one
 
--- ---- places
+-- ---- positions
 
--- the n places that the rest gives, behind those in front, are what all bytes give
+-- the n positions that the rest gives, behind those in front, are what all bytes give
 abbrev pub Placed : List ℕ → ℕ → ℕ → List ℕ → Option (List ℕ) → Type 0
-Placed front n len rest total = (places_of n len rest >>= λ ps. Some (front ++ ps)) ≡ total
+Placed front n len rest total = (positions_of n len rest >>= λ ps. Some (front ++ ps)) ≡ total
 
--- one place more is put to those in front, and all give what they gave before
-pub place_more : (front : List ℕ) (n m len : ℕ) (rest word behind : List ℕ) (place : ℕ) (total : Option (List ℕ)) → n ≡ suc m → after (codes " ") rest ≡ Some word → number_at word ≡ Some (place, behind) → place < len
-    → Placed front n len rest total → Placed (front ++ place ∷ []) m len behind total
-unfolding places_of
-place_more front n m len rest word behind place total more e f low so_far =
-    let below : nat_lt place len ≡ true = lt-ltb place len low in
-    let one : (places_of n len rest >>= λ ps. Some (front ++ ps)) ≡ (places_of m len behind >>= λ ps. Some ((front ++ place ∷ []) ++ ps)) = rw (more, e, f, below) (by (places_of m len behind)) in
+-- one position more is put to those in front, and all give what they gave before
+pub position_more : (front : List ℕ) (n m len : ℕ) (rest word behind : List ℕ) (position : ℕ) (total : Option (List ℕ)) → n ≡ suc m → after (codes " ") rest ≡ Some word → number_at word ≡ Some (position, behind) → position < len
+    → Placed front n len rest total → Placed (front ++ position ∷ []) m len behind total
+unfolding positions_of
+position_more front n m len rest word behind position total more e f low so_far =
+    let below : nat_lt position len ≡ true = lt-ltb position len low in
+    let one : (positions_of n len rest >>= λ ps. Some (front ++ ps)) ≡ (positions_of m len behind >>= λ ps. Some ((front ++ position ∷ []) ++ ps)) = rw (more, e, f, below) (by (positions_of m len behind)) in
     sym one ∙ so_far
   where
-    by : (o : Option (List ℕ)) → ((o >>= λ y. Some (place ∷ y)) >>= λ ps. Some (front ++ ps)) ≡ (o >>= λ ps. Some ((front ++ place ∷ []) ++ ps))
-    by (Some y) = ap (λ (all : List ℕ). Some all) (sym (append_assoc front (place ∷ []) y))
+    by : (o : Option (List ℕ)) → ((o >>= λ y. Some (position ∷ y)) >>= λ ps. Some (front ++ ps)) ≡ (o >>= λ ps. Some ((front ++ position ∷ []) ++ ps))
+    by (Some y) = ap (λ (all : List ℕ). Some all) (sym (append_assoc front (position ∷ []) y))
     by None = refl
 
--- where no space stands though a place is missing, all bytes give no places
-pub place_no_space : (front : List ℕ) (n m len : ℕ) (rest : List ℕ) (total : Option (List ℕ)) → n ≡ suc m → after (codes " ") rest ≡ None → Placed front n len rest total → total ≡ None
-unfolding places_of
-place_no_space front n m len rest total more e so_far =
-    let one : (places_of n len rest >>= λ ps. Some (front ++ ps)) ≡ None = rw (more, e) refl in
+-- where no space stands though a position is missing, all bytes give no positions
+pub position_no_space : (front : List ℕ) (n m len : ℕ) (rest : List ℕ) (total : Option (List ℕ)) → n ≡ suc m → after (codes " ") rest ≡ None → Placed front n len rest total → total ≡ None
+unfolding positions_of
+position_no_space front n m len rest total more e so_far =
+    let one : (positions_of n len rest >>= λ ps. Some (front ++ ps)) ≡ None = rw (more, e) refl in
     sym so_far ∙ one
 
--- where no number stands behind the space, all bytes give no places
-pub place_no_number : (front : List ℕ) (n m len : ℕ) (rest word : List ℕ) (total : Option (List ℕ)) → n ≡ suc m → after (codes " ") rest ≡ Some word → number_at word ≡ None → Placed front n len rest total → total ≡ None
-unfolding places_of
-place_no_number front n m len rest word total more e f so_far =
-    let one : (places_of n len rest >>= λ ps. Some (front ++ ps)) ≡ None = rw (more, e, f) refl in
+-- where no number stands behind the space, all bytes give no positions
+pub position_no_number : (front : List ℕ) (n m len : ℕ) (rest word : List ℕ) (total : Option (List ℕ)) → n ≡ suc m → after (codes " ") rest ≡ Some word → number_at word ≡ None → Placed front n len rest total → total ≡ None
+unfolding positions_of
+position_no_number front n m len rest word total more e f so_far =
+    let one : (positions_of n len rest >>= λ ps. Some (front ++ ps)) ≡ None = rw (more, e, f) refl in
     sym so_far ∙ one
 
--- where the place is not below the length, all bytes give no places
-pub place_high : (front : List ℕ) (n m len : ℕ) (rest word behind : List ℕ) (place : ℕ) (total : Option (List ℕ)) → n ≡ suc m → after (codes " ") rest ≡ Some word → number_at word ≡ Some (place, behind) → len ≤ place
+-- where the position is not below the length, all bytes give no positions
+pub position_high : (front : List ℕ) (n m len : ℕ) (rest word behind : List ℕ) (position : ℕ) (total : Option (List ℕ)) → n ≡ suc m → after (codes " ") rest ≡ Some word → number_at word ≡ Some (position, behind) → len ≤ position
     → Placed front n len rest total → total ≡ None
-unfolding places_of
-place_high front n m len rest word behind place total more e f high so_far =
-    let below : nat_lt place len ≡ false = le-ltb place len high in
-    let one : (places_of n len rest >>= λ ps. Some (front ++ ps)) ≡ None = rw (more, e, f, below) refl in
+unfolding positions_of
+position_high front n m len rest word behind position total more e f high so_far =
+    let below : nat_lt position len ≡ false = le-ltb position len high in
+    let one : (positions_of n len rest >>= λ ps. Some (front ++ ps)) ≡ None = rw (more, e, f, below) refl in
     sym so_far ∙ one
 
--- where no place is missing and nothing is left, all bytes give those in front
-pub places_done : (front : List ℕ) (n len : ℕ) (rest : List ℕ) (total : Option (List ℕ)) → n ≡ 0 → rest ≡ [] → Placed front n len rest total → total ≡ Some front
-unfolding places_of whole
-places_done front n len rest total none ended so_far =
-    let one : (places_of n len rest >>= λ ps. Some (front ++ ps)) ≡ Some front = rw (none, ended) (ap (λ (all : List ℕ). Some all) (append-nil front)) in
+-- where no position is missing and nothing is left, all bytes give those in front
+pub positions_done : (front : List ℕ) (n len : ℕ) (rest : List ℕ) (total : Option (List ℕ)) → n ≡ 0 → rest ≡ [] → Placed front n len rest total → total ≡ Some front
+unfolding positions_of whole
+positions_done front n len rest total none ended so_far =
+    let one : (positions_of n len rest >>= λ ps. Some (front ++ ps)) ≡ Some front = rw (none, ended) (ap (λ (all : List ℕ). Some all) (append-nil front)) in
     sym so_far ∙ one
 
--- where no place is missing and something is left, all bytes give no places
-pub places_behind : (front : List ℕ) (n len : ℕ) (rest : List ℕ) (total : Option (List ℕ)) → n ≡ 0 → rest ≢ [] → Placed front n len rest total → total ≡ None
-unfolding places_of whole
-places_behind front n len [] total none ended so_far = absurd (ended refl)
-places_behind front n len (b ∷ bs) total none ended so_far =
-    let one : (places_of n len (b ∷ bs) >>= λ ps. Some (front ++ ps)) ≡ None = rw none (rw (le-ltb (suc (length bs)) 1 (omega arith)) refl) in
+-- where no position is missing and something is left, all bytes give no positions
+pub positions_behind : (front : List ℕ) (n len : ℕ) (rest : List ℕ) (total : Option (List ℕ)) → n ≡ 0 → rest ≢ [] → Placed front n len rest total → total ≡ None
+unfolding positions_of whole
+positions_behind front n len [] total none ended so_far = absurd (ended refl)
+positions_behind front n len (b ∷ bs) total none ended so_far =
+    let one : (positions_of n len (b ∷ bs) >>= λ ps. Some (front ++ ps)) ≡ None = rw none (rw (le-ltb (suc (length bs)) 1 (omega arith)) refl) in
     sym so_far ∙ one

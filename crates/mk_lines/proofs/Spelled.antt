@@ -11,9 +11,9 @@ use Rattle.mk_lines.specs.Words.{operand_word}
 use Rattle.mk_field.specs.Digits.{hex_byte, hex_digit}
 use Rattle.mk_ssa.specs.Widths.{OperandFits}
 use Rattle.mk_lines.specs.CertLines.{pair_words, mapped_words}
-use Rattle.mk_lines.specs.CodeLines.{place_word}
+use Rattle.mk_lines.specs.CodeLines.{position_word}
 use Rattle.mk_field.specs.Maps.{MapFits}
-use Rattle.mk_lines.specs.Parsing.{◌>>=◌, after, whole, number_at, number_of, hex_value, hex_at, hex_of, images_at, map_of, operand_by, operand_at, operand_of, pair_of, mapped_of, numbers_of, places_of}
+use Rattle.mk_lines.specs.Parsing.{◌>>=◌, after, whole, number_at, number_of, hex_value, hex_at, hex_of, images_at, map_of, operand_by, operand_at, operand_of, pair_of, mapped_of, numbers_of, positions_of}
 use Rattle.mk_lines.proofs.Steps.{bind_some, same_some, chosen, passed, not_passed, after_found, after_again, whole_found}
 use Rattle.mk_lines.proofs.Numbers.{EndsNumber, number_found, number_again, number_of_found, number_of_again}
 
@@ -283,36 +283,36 @@ numbers_again left right small_left small_right =
     ∙ ap (λ (o : Option (List ℕ)). o >>= λ rest. number_of rest >>= λ right. Some (left, right)) (after_again (codes " ") (decimal right))
     ∙ ap (λ (o : Option ℕ). o >>= λ right. Some (left, right)) (number_of_again right small_right)
 
--- ---- places
+-- ---- positions
 
--- bytes that are read as n places below a length are their words: n of them, each below that length
-pub places_found : (n len : ℕ) (bytes places : List ℕ) → places_of n len bytes ≡ Some places → (bytes ≡ flat_map place_word places) × (length places ≡ n) × AllByRecursion (λ p. p < len) places
-unfolding places_of
-places_found zero len bytes places e =
-    let w = whole_found {A = List ℕ} ([], bytes) places e in
-    let none : [] ≡ places = w.0 in
-    subst (λ (ps : List ℕ). (bytes ≡ flat_map place_word ps) × (length ps ≡ 0) × AllByRecursion (λ p. p < len) ps) none (w.1, refl, tt)
-places_found (suc n) len bytes places e =
-    let a = bind_some (after (codes " ") bytes) (λ (rest : List ℕ). number_at rest >>= λ place. cond (nat_lt place.0 len) (places_of n len place.1 >>= λ ps. Some (place.0 ∷ ps)) None) places e in
-    let b = bind_some (number_at a.0) (λ (place : ℕ × List ℕ). cond (nat_lt place.0 len) (places_of n len place.1 >>= λ ps. Some (place.0 ∷ ps)) None) places a.2 in
-    let h = passed (nat_lt b.0.0 len) (places_of n len b.0.1 >>= λ ps. Some (b.0.0 ∷ ps)) places b.2 in
-    let d = bind_some (places_of n len b.0.1) (λ (ps : List ℕ). Some (b.0.0 ∷ ps)) places h.1 in
-    let is : b.0.0 ∷ d.0 ≡ places = same_some (b.0.0 ∷ d.0) places d.2 in
+-- bytes that are read as n positions below a length are their words: n of them, each below that length
+pub positions_found : (n len : ℕ) (bytes positions : List ℕ) → positions_of n len bytes ≡ Some positions → (bytes ≡ flat_map position_word positions) × (length positions ≡ n) × AllByRecursion (λ p. p < len) positions
+unfolding positions_of
+positions_found zero len bytes positions e =
+    let w = whole_found {A = List ℕ} ([], bytes) positions e in
+    let none : [] ≡ positions = w.0 in
+    subst (λ (ps : List ℕ). (bytes ≡ flat_map position_word ps) × (length ps ≡ 0) × AllByRecursion (λ p. p < len) ps) none (w.1, refl, tt)
+positions_found (suc n) len bytes positions e =
+    let a = bind_some (after (codes " ") bytes) (λ (rest : List ℕ). number_at rest >>= λ position. cond (nat_lt position.0 len) (positions_of n len position.1 >>= λ ps. Some (position.0 ∷ ps)) None) positions e in
+    let b = bind_some (number_at a.0) (λ (position : ℕ × List ℕ). cond (nat_lt position.0 len) (positions_of n len position.1 >>= λ ps. Some (position.0 ∷ ps)) None) positions a.2 in
+    let h = passed (nat_lt b.0.0 len) (positions_of n len b.0.1 >>= λ ps. Some (b.0.0 ∷ ps)) positions b.2 in
+    let d = bind_some (positions_of n len b.0.1) (λ (ps : List ℕ). Some (b.0.0 ∷ ps)) positions h.1 in
+    let is : b.0.0 ∷ d.0 ≡ positions = same_some (b.0.0 ∷ d.0) positions d.2 in
     let first = number_found a.0 b.0 b.1 in
-    let others = places_found n len b.0.1 d.0 d.1 in
-    let here : bytes ≡ flat_map place_word (b.0.0 ∷ d.0) =
+    let others = positions_found n len b.0.1 d.0 d.1 in
+    let here : bytes ≡ flat_map position_word (b.0.0 ∷ d.0) =
     after_found (codes " ") bytes a.0 a.1 ∙ ap (λ (r : List ℕ). codes " " ++ r) first.0 ∙ ap (λ (r : List ℕ). codes " " ++ (decimal b.0.0 ++ r)) others.0 in
-    subst (λ (ps : List ℕ). (bytes ≡ flat_map place_word ps) × (length ps ≡ suc n) × AllByRecursion (λ p. p < len) ps) is (here, ap suc others.1, (ltb-true b.0.0 len h.0, others.2))
+    subst (λ (ps : List ℕ). (bytes ≡ flat_map position_word ps) × (length ps ≡ suc n) × AllByRecursion (λ p. p < len) ps) is (here, ap suc others.1, (ltb-true b.0.0 len h.0, others.2))
 
--- no digit stands in front of the words of places, since each begins with a space
-behind_place : (places : List ℕ) → EndsNumber (flat_map place_word places)
-behind_place [] = tt
-behind_place (p ∷ ps) = refl
+-- no digit stands in front of the words of positions, since each begins with a space
+behind_position : (positions : List ℕ) → EndsNumber (flat_map position_word positions)
+behind_position [] = tt
+behind_position (p ∷ ps) = refl
 
--- the words of places below a length of 32 bits are read as those places
-pub places_again : (len : ℕ) (places : List ℕ) → len < 2 ^ 32 → AllByRecursion (λ p. p < len) places → places_of (length places) len (flat_map place_word places) ≡ Some places
-unfolding places_of after whole
-places_again len [] short all = refl
-places_again len (p ∷ ps) short all =
+-- the words of positions below a length of 32 bits are read as those positions
+pub positions_again : (len : ℕ) (positions : List ℕ) → len < 2 ^ 32 → AllByRecursion (λ p. p < len) positions → positions_of (length positions) len (flat_map position_word positions) ≡ Some positions
+unfolding positions_of after whole
+positions_again len [] short all = refl
+positions_again len (p ∷ ps) short all =
     let low : p < len = all.0 in
-    rw (number_again p (flat_map place_word ps) (omega arith) (behind_place ps), lt-ltb p len low, places_again len ps short all.1) refl
+    rw (number_again p (flat_map position_word ps) (omega arith) (behind_position ps), lt-ltb p len low, positions_again len ps short all.1) refl

@@ -20,15 +20,15 @@ instr_line (Mul left right) = line (codes "mul " ++ decimal left ++ codes " " ++
 instr_line (Sq from) = line (codes "sq " ++ decimal from)
 instr_line (Map map from) = line (codes "map " ++ decimal map ++ codes " " ++ decimal from)
 
--- a space and a place in the trace
-abbrev pub place_word : ℕ → List ℕ
-place_word place = codes " " ++ decimal place
+-- a space and a position in the trace
+abbrev pub position_word : ℕ → List ℕ
+position_word position = codes " " ++ decimal position
 
--- the line of an output: the places of its shares
+-- the line of an output: the positions of its shares
 abbrev pub out_line : List ℕ → List ℕ
-out_line places = line (codes "out" ++ flat_map place_word places)
+out_line positions = line (codes "out" ++ flat_map position_word positions)
 
--- the lines of so many outputs, each of which has the next `shares` of the places
+-- the lines of so many outputs, each of which has the next `shares` of the positions
 unfoldable pub out_lines : ℕ → ℕ → List ℕ → List ℕ
-out_lines shares zero places = []
-out_lines shares (suc outputs) places = out_line (take shares places) ++ out_lines shares outputs (drop shares places)
+out_lines shares zero positions = []
+out_lines shares (suc outputs) positions = out_line (take shares positions) ++ out_lines shares outputs (drop shares positions)

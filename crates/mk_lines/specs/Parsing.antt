@@ -186,10 +186,10 @@ instr_of words =
     behind (after (codes "sq ") words) (λ rest. number_of rest >>= λ from. Some (instr.Sq from)) (
     behind (after (codes "map ") words) (λ rest. numbers_of rest >>= λ p. Some (instr.Map p.0 p.1)) None))))))
 
--- so many places below `len`, a space before each, and nothing behind them
-unfoldable pub places_of : ℕ → ℕ → List ℕ → Option (List ℕ)
-places_of zero len bytes = whole ([], bytes)
-places_of (suc n) len bytes = do
+-- so many positions below `len`, a space before each, and nothing behind them
+unfoldable pub positions_of : ℕ → ℕ → List ℕ → Option (List ℕ)
+positions_of zero len bytes = whole ([], bytes)
+positions_of (suc n) len bytes = do
   rest ← after (codes " ") bytes
-  place ← number_at rest
-  if nat_lt place.0 len then (places_of n len place.1 >>= λ places. Some (place.0 ∷ places)) else None
+  position ← number_at rest
+  if nat_lt position.0 len then (positions_of n len position.1 >>= λ positions. Some (position.0 ∷ positions)) else None

@@ -10,9 +10,9 @@
 //!   `block mul V V` or `block refresh V` for a block;
 //! - `claim V` for a claim;
 //! - `rnd`, `const C`, `copy P`, `add P P`, `mul P P`, `sq P` or `map M P` for an instruction;
-//! - `out` and the places of its shares for an output.
+//! - `out` and the positions of its shares for an output.
 //!
-//! A call that writes appends to a text. One that reads takes the bytes from their front on, and answers
+//! A call that writes makes one line in position, and takes no memory. One that reads takes the bytes from their front on, and answers
 //! `None` where they don't spell what it reads.
 #![tactic(auto)]
 
@@ -22,9 +22,9 @@ mod parse;
 mod words;
 
 pub use cutting::cut;
-pub use lines::{push_claim, push_instr, push_map, push_op, push_out};
+pub use lines::{spell_claim, spell_instr, spell_map, spell_op, spell_out};
 pub use parse::{after, instr_of, map_of, number_at, number_of, op_of, operand_of};
-pub use words::{push_hex, push_operand};
+pub use words::{Line, push_number};
 
 #[cfg(test)]
 mod tests {
@@ -32,38 +32,23 @@ mod tests {
     use mk_code::Instr;
     use mk_field::AddMap;
     use mk_ssa::{Op, Operand};
-    use std::alloc::AllocError;
 
     #[test]
-    fn elements_and_operands_are_appended(rt: HostRuntime) -> Result<(), AllocError> {
-        let mut text = String::new(rt.alloc());
-        push_hex(&mut text, 0xa7)?;
-        for operand in [
-            Operand::Secret(0),
-            Operand::Public(10),
-            Operand::Block(4_294_967_295),
-        ] {
-            text.push_str(" ")?;
-            push_operand(&mut text, operand)?;
-        }
-        assert_eq!(rt; text.as_str(), "a7 s0 p10 b4294967295");
-        Ok(())
-    }
-
-    #[test]
-    fn lines_are_appended(rt: HostRuntime) -> Result<(), AllocError> {
-        let mut text = String::new(rt.alloc());
-        let images = [1, 2, 4, 8, 16, 32, 64, 128];
-        push_map(&mut text, AddMap { images })?;
-        let arg = Operand::Block(3);
-        push_op(&mut text, Op::Map { map: 7, arg })?;
-        push_claim(&mut text, Operand::Secret(1))?;
-        push_instr(&mut text, Instr::Map { map: 7, from: 10 })?;
-        push_out(&mut text, &[4, 15])?;
-        assert_eq!(rt;
-            text.as_str(),
-            "map 0102040810204080\nblock map 7 b3\nclaim s1\nmap 7 10\nout 4 15\n"
-        );
-        Ok(())
+    fn lines_are_made_in_position(rt: HostRuntime) {
+        let mut line = Line::new();
+        let images = [1, 2, 4, 8, 16, 32, 64, 0xa7];
+        spell_map(&mut line, AddMap { images });
+        assert_eq!(rt; line.as_str(), "map 01020408102040a7\n");
+        let arg = Operand::Block(4_294_967_295);
+        spell_op(&mut line, Op::Map { map: 7, arg });
+        assert_eq!(rt; line.as_str(), "block map 7 b4294967295\n");
+        spell_claim(&mut line, Operand::Secret(0));
+        assert_eq!(rt; line.as_str(), "claim s0\n");
+        spell_claim(&mut line, Operand::Public(10));
+        assert_eq!(rt; line.as_str(), "claim p10\n");
+        spell_instr(&mut line, Instr::Map { map: 7, from: 10 });
+        assert_eq!(rt; line.as_str(), "map 7 10\n");
+        spell_out(&mut line, &[4, 15]);
+        assert_eq!(rt; line.as_str(), "out 4 15\n");
     }
 }

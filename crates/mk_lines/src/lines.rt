@@ -1,143 +1,208 @@
-ghost use Rattle.std.specs.Prelude.{◌≡◌, ◌<◌, length, ◌^◌, ◌++◌, OnOk, string_bytes, flat_map};
+//! The lines as they are written. Each is made in position of what the line was before.
+
+ghost use Rattle.std.specs.Prelude.{◌≡◌, ◌≤◌, ◌<◌, ◌+◌, ◌*◌, length, ◌^◌, ◌++◌, codes, flat_map, decimal};
 ghost use Rattle.std.specs.List.{AllByRecursion};
+ghost use Rattle.arrayvec.specs.ArrayString.{array_string_len};
+ghost use Rattle.mk_base.specs.declared.TheConstants.{TOP_ORDER};
 ghost use Rattle.mk_lines.specs.Words.{operand_word};
 ghost use Rattle.mk_field.specs.Digits.{hex_byte};
 ghost use Rattle.mk_lines.specs.CertLines.{block_line, pair_words, mapped_words, op_line, claim_line};
-ghost use Rattle.mk_lines.specs.CodeLines.{map_line, instr_line, place_word, out_line};
+ghost use Rattle.mk_lines.specs.CodeLines.{map_line, instr_line, position_word, out_line};
 ghost use Rattle.mk_ssa.specs.Widths.{OperandFits, OpFits};
 ghost use Rattle.mk_field.specs.Maps.{MapFits};
 
-use crate::words::{push_hex, push_operand};
+use crate::words::{Line, push_hex, push_number, push_operand};
 use mk_code::Instr;
 use mk_field::AddMap;
 use mk_ssa::{Op, Operand};
-use std::alloc::AllocError;
 
-/// Appends the line of a map: its images, that of bit 0 first.
-pub fn push_map(text: &mut String, map: AddMap) -> Result<(), AllocError>
-    ensures text { OnOk result (string_bytes text.new ≡ string_bytes text.old ++ map_line map) }
-    ensures fits { OnOk result (MapFits map) }
+/// Makes it the line of a map: its images, that of bit 0 first.
+pub fn spell_map(line: &mut Line, map: AddMap)
+    ensures text { line.new.bytes ≡ map_line map }
+    ensures fits { MapFits map }
 {
-    text.push_str("map ")?;
-    push_images(text, &map.images)?;
-    text.push_str("\n")
+    line.clear();
+    line.push_str("map ");
+    push_images(line, &map.images);
+    line.push_str("\n");
 }
 
 /// Appends elements, with nothing between them.
-fn push_images(text: &mut String, images: &[u8; 8]) -> Result<(), AllocError>
-    ensures text { OnOk result (string_bytes text.new ≡ string_bytes text.old ++ flat_map hex_byte images.now) }
-    ensures fits { OnOk result ((length images.now ≡ 8) × AllByRecursion (λ b. b < 256) images.now) }
+fn push_images(line: &mut Line, images: &[u8; 8])
+    requires { array_string_len line.old + 20 ≤ 192 }
+    ensures text { line.new.bytes ≡ line.old.bytes ++ flat_map hex_byte images.now }
+    ensures fits { (length images.now ≡ 8) × AllByRecursion (λ b. b < 256) images.now }
+    ensures len { array_string_len line.new ≡ array_string_len line.old + 16 }
 {
     for image in images {
-        push_hex(text, *image)?;
+        push_hex(line, *image);
     }
-    Ok(())
 }
 
-/// Appends the line of a block.
-pub fn push_op(text: &mut String, op: Op) -> Result<(), AllocError>
-    ensures text { OnOk result (string_bytes text.new ≡ string_bytes text.old ++ op_line op) }
-    ensures fits { OnOk result (OpFits op) }
+/// Makes it the line of a block.
+pub fn spell_op(line: &mut Line, op: Op)
+    ensures text { line.new.bytes ≡ op_line op }
+    ensures fits { OpFits op }
 {
     let kind = op.word();
     match op {
-        Op::Const { value } => push_constant(text, kind, value),
+        Op::Const { value } => spell_constant(line, kind, value),
         Op::PubSq { arg } | Op::Lift { arg } | Op::Sq { arg } | Op::Refresh { arg } => {
-            push_single(text, kind, arg)
+            spell_single(line, kind, arg)
         }
-        Op::PubMap { map, arg } | Op::Map { map, arg } => push_mapped(text, kind, map, arg),
+        Op::PubMap { map, arg } | Op::Map { map, arg } => spell_mapped(line, kind, map, arg),
         Op::PubAdd { left, right }
         | Op::PubMul { left, right }
         | Op::Add { left, right }
         | Op::AddPub { left, right }
         | Op::Scale { left, right }
-        | Op::Mul { left, right } => push_pair(text, kind, left, right),
+        | Op::Mul { left, right } => spell_pair(line, kind, left, right),
     }
 }
 
-/// Appends the line of a block of this kind with an element.
-fn push_constant(text: &mut String, kind: &str, value: u8) -> Result<(), AllocError>
-    ensures text { OnOk result (string_bytes text.new ≡ string_bytes text.old ++ block_line kind.now (hex_byte value)) }
-    ensures fits { OnOk result (value < 256) }
+/// Makes it the front of the line of a block of this kind.
+fn begin_block(line: &mut Line, kind: &str)
+    requires { length kind.now ≤ 16 }
+    ensures text { line.new.bytes ≡ codes "block " ++ kind.now ++ codes " " }
+    ensures len { array_string_len line.new ≤ 23 }
 {
-    write!(text, "block {kind} ")?;
-    push_hex(text, value)?;
-    text.push_str("\n")
+    line.clear();
+    line.push_str("block ");
+    line.push_str(kind);
+    line.push_str(" ");
 }
 
-/// Appends the line of a block of this kind with one operand.
-fn push_single(text: &mut String, kind: &str, arg: Operand) -> Result<(), AllocError>
-    ensures text { OnOk result (string_bytes text.new ≡ string_bytes text.old ++ block_line kind.now (operand_word arg)) }
-    ensures fits { OnOk result (OperandFits arg) }
+/// Makes it the line of a block of this kind with an element.
+fn spell_constant(line: &mut Line, kind: &str, value: u8)
+    requires { length kind.now ≤ 16 }
+    ensures text { line.new.bytes ≡ block_line kind.now (hex_byte value) }
+    ensures fits { value < 256 }
 {
-    write!(text, "block {kind} ")?;
-    push_operand(text, arg)?;
-    text.push_str("\n")
+    begin_block(line, kind);
+    push_hex(line, value);
+    line.push_str("\n");
 }
 
-/// Appends the line of a block of this kind with two operands.
-fn push_pair(text: &mut String, kind: &str, left: Operand, right: Operand) -> Result<(), AllocError>
-    ensures text { OnOk result (string_bytes text.new ≡ string_bytes text.old ++ block_line kind.now (pair_words left right)) }
-    ensures fits { OnOk result (OperandFits left × OperandFits right) }
+/// Makes it the line of a block of this kind with one operand.
+fn spell_single(line: &mut Line, kind: &str, arg: Operand)
+    requires { length kind.now ≤ 16 }
+    ensures text { line.new.bytes ≡ block_line kind.now (operand_word arg) }
+    ensures fits { OperandFits arg }
 {
-    write!(text, "block {kind} ")?;
-    push_operand(text, left)?;
-    text.push_str(" ")?;
-    push_operand(text, right)?;
-    text.push_str("\n")
+    begin_block(line, kind);
+    push_operand(line, arg);
+    line.push_str("\n");
 }
 
-/// Appends the line of a block of this kind with the number of a map and an operand.
-fn push_mapped(text: &mut String, kind: &str, map: u32, arg: Operand) -> Result<(), AllocError>
-    ensures text { OnOk result (string_bytes text.new ≡ string_bytes text.old ++ block_line kind.now (mapped_words map arg)) }
-    ensures fits { OnOk result ((map < 2 ^ 32) × OperandFits arg) }
+/// Makes it the line of a block of this kind with two operands.
+fn spell_pair(line: &mut Line, kind: &str, left: Operand, right: Operand)
+    requires { length kind.now ≤ 16 }
+    ensures text { line.new.bytes ≡ block_line kind.now (pair_words left right) }
+    ensures fits { OperandFits left × OperandFits right }
 {
-    write!(text, "block {kind} {map} ")?;
-    push_operand(text, arg)?;
-    text.push_str("\n")
+    begin_block(line, kind);
+    push_operand(line, left);
+    line.push_str(" ");
+    push_operand(line, right);
+    line.push_str("\n");
 }
 
-/// Appends the line of a claim.
-pub fn push_claim(text: &mut String, value: Operand) -> Result<(), AllocError>
-    ensures text { OnOk result (string_bytes text.new ≡ string_bytes text.old ++ claim_line value) }
-    ensures fits { OnOk result (OperandFits value) }
+/// Makes it the line of a block of this kind with the number of a map and an operand.
+fn spell_mapped(line: &mut Line, kind: &str, map: u32, arg: Operand)
+    requires { length kind.now ≤ 16 }
+    ensures text { line.new.bytes ≡ block_line kind.now (mapped_words map arg) }
+    ensures fits { (map < 2 ^ 32) × OperandFits arg }
 {
-    text.push_str("claim ")?;
-    push_operand(text, value)?;
-    text.push_str("\n")
+    begin_block(line, kind);
+    push_number(line, map);
+    line.push_str(" ");
+    push_operand(line, arg);
+    line.push_str("\n");
 }
 
-/// Appends the line of an instruction.
-#[tactic(auto, using(std::proofs::lemmas::Fmt::hex_byte))]
-pub fn push_instr(text: &mut String, instr: Instr) -> Result<(), AllocError>
-    ensures { OnOk result (string_bytes text.new ≡ string_bytes text.old ++ instr_line instr) }
+/// Makes it the line of a claim.
+pub fn spell_claim(line: &mut Line, value: Operand)
+    ensures text { line.new.bytes ≡ claim_line value }
+    ensures fits { OperandFits value }
+{
+    line.clear();
+    line.push_str("claim ");
+    push_operand(line, value);
+    line.push_str("\n");
+}
+
+/// Makes it the line of an instruction.
+pub fn spell_instr(line: &mut Line, instr: Instr)
+    ensures { line.new.bytes ≡ instr_line instr }
 {
     match instr {
-        Instr::Rnd => write!(text, "rnd\n"),
-        Instr::Const { value } => write!(text, "const {value:02x}\n"),
-        Instr::Copy { from } => write!(text, "copy {from}\n"),
-        Instr::Add { left, right } => write!(text, "add {left} {right}\n"),
-        Instr::Mul { left, right } => write!(text, "mul {left} {right}\n"),
-        Instr::Sq { from } => write!(text, "sq {from}\n"),
-        Instr::Map { map, from } => write!(text, "map {map} {from}\n"),
+        Instr::Rnd => {
+            line.clear();
+            line.push_str("rnd\n");
+        }
+        Instr::Const { value } => spell_element(line, value),
+        Instr::Copy { from } => spell_number(line, "copy ", from),
+        Instr::Add { left, right } => spell_numbers(line, "add ", left, right),
+        Instr::Mul { left, right } => spell_numbers(line, "mul ", left, right),
+        Instr::Sq { from } => spell_number(line, "sq ", from),
+        Instr::Map { map, from } => spell_numbers(line, "map ", map, from),
     }
 }
 
-/// Appends the line of an output: the places of its shares.
-pub fn push_out(text: &mut String, places: &[u32]) -> Result<(), AllocError>
-    ensures { OnOk result (string_bytes text.new ≡ string_bytes text.old ++ out_line places.now) }
+/// Makes it the line of the instruction that gives an element.
+fn spell_element(line: &mut Line, value: u8)
+    ensures { line.new.bytes ≡ codes "const " ++ hex_byte value ++ codes "\n" }
 {
-    text.push_str("out")?;
-    push_places(text, places)?;
-    text.push_str("\n")
+    line.clear();
+    line.push_str("const ");
+    push_hex(line, value);
+    line.push_str("\n");
 }
 
-/// Appends places in the trace, a space before each.
-fn push_places(text: &mut String, places: &[u32]) -> Result<(), AllocError>
-    ensures { OnOk result (string_bytes text.new ≡ string_bytes text.old ++ flat_map place_word places.now) }
+/// Makes it a line of a name and a number.
+fn spell_number(line: &mut Line, name: &str, number: u32)
+    requires { length name.now ≤ 16 }
+    ensures { line.new.bytes ≡ name.now ++ decimal number ++ codes "\n" }
 {
-    for place in places {
-        write!(text, " {place}")?;
+    line.clear();
+    line.push_str(name);
+    push_number(line, number);
+    line.push_str("\n");
+}
+
+/// Makes it a line of a name and two numbers.
+fn spell_numbers(line: &mut Line, name: &str, left: u32, right: u32)
+    requires { length name.now ≤ 16 }
+    ensures { line.new.bytes ≡ name.now ++ decimal left ++ codes " " ++ decimal right ++ codes "\n" }
+{
+    line.clear();
+    line.push_str(name);
+    push_number(line, left);
+    line.push_str(" ");
+    push_number(line, right);
+    line.push_str("\n");
+}
+
+/// Makes it the line of an output: the positions of its shares.
+pub fn spell_out(line: &mut Line, positions: &[u32])
+    requires { length positions.now ≤ TOP_ORDER + 1 }
+    ensures { line.new.bytes ≡ out_line positions.now }
+{
+    line.clear();
+    line.push_str("out");
+    push_positions(line, positions);
+    line.push_str("\n");
+}
+
+/// Appends positions in the trace, a space before each.
+fn push_positions(line: &mut Line, positions: &[u32])
+    requires few { length positions.now ≤ TOP_ORDER + 1 }
+    requires room { array_string_len line.old ≤ 3 }
+    ensures text { line.new.bytes ≡ line.old.bytes ++ flat_map position_word positions.now }
+    ensures len { array_string_len line.new ≤ array_string_len line.old + 11 * length positions.now }
+{
+    for position in positions {
+        line.push_str(" ");
+        push_number(line, *position);
     }
-    Ok(())
 }

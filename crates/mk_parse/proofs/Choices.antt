@@ -180,6 +180,7 @@ module _ {A : Type 0} (test : Token → Bool) (more : Token → Bool)
           })
     ]
 
+    -- the reader that chooses reads the one phrase or the other
     pub reads_or : Reads (chosen test first second) (phrase or other_phrase) more
     reads_or = record {
       found = or_found;

@@ -8,11 +8,13 @@ use Rattle.mk_ast.specs.Spells.{NoGapBegins}
 
 -- a gap and a gap behind it are a gap
 mutual
+  -- a gap and then another one are a gap
   pub gap_append : (xs ys : List ℕ) → IsGap xs → IsGap ys → IsGap (xs ++ ys)
   gap_append [] ys p q = q
   gap_append (b ∷ bs) ys (inl h) q = inl (h.0, gap_append bs ys h.1 q)
   gap_append (b ∷ bs) ys (inr h) q = inr (h.0, comment_append bs ys h.1 q)
 
+  -- a comment and then a gap are a comment
   pub comment_append : (xs ys : List ℕ) → IsComment xs → IsGap ys → IsComment (xs ++ ys)
   comment_append [] ys p q = absurd p
   comment_append (b ∷ bs) ys (inl h) q = inl (h.0, gap_append bs ys h.1 q)
@@ -29,6 +31,7 @@ no_gap b bs (inr h) none = both_ways (b == 35) (or_parts (is_blank b) (b == 35) 
 
 -- what a text begins with is a gap as long as possible in one way only
 mutual
+  -- of a text there is one longest gap at its front
   pub gap_unique : (g h x y : List ℕ) → IsGap g → IsGap h → g ++ x ≡ h ++ y → NoGapBegins x → NoGapBegins y → (g ≡ h) × (x ≡ y)
   gap_unique [] [] x y p q e nx ny = (refl, e)
   gap_unique [] (b ∷ bs) x y p q e nx ny = absurd (no_gap b bs q (subst NoGapBegins e nx))

@@ -67,6 +67,7 @@ module _ {A : Type 0} (word : List ℕ) {reader : Reader A} {phrase : Phrase A} 
     | inr h ↦ stuck_here (past word reader) (after word phrase) (t ∷ ts) bad _ _ h.1 past_sample (λ other s. past_fails t ts other h.0 s)
   ]
 
+  -- the reader behind a word reads the phrase behind the word
   pub reads_after : Reads (past word reader) (after word phrase) goes_on
   reads_after = record {
     found = past_found;
@@ -85,9 +86,11 @@ after_begins word phrase ts a spelled = (spelled.0, spelled.1, spelled.2, is_say
 module _ {A B : Type 0} {first : Reader A} {phrase : Phrase A} {goes_on : Token → Bool} (reads : Reads first phrase goes_on)
     {second : Reader B} {other_phrase : Phrase B} {other_goes_on : Token → Bool} (others : Reads second other_phrase other_goes_on)
     (parts_there : (back : List Token) (b : B) (rest : List Token) → other_phrase back b → Stops other_goes_on rest → Stops goes_on (back ++ rest)) where
+  -- the pair of what was read before and what is read next
   abbrev paired : A → B × List Token → Reading (A × B)
   paired a y = Ok ((a, y.0), y.1)
 
+  -- what the second reader reads behind the first one
   abbrev behind : A × List Token → Reading (A × B)
   behind x = second x.1 >>= paired x.0
 
@@ -172,6 +175,7 @@ module _ {A B : Type 0} {first : Reader A} {phrase : Phrase A} {goes_on : Token 
         })
   ]
 
+  -- one reader behind the other reads the one phrase and then the other
   pub reads_and : Reads (first next second) (phrase and other_phrase) other_goes_on
   reads_and = record {
     found = next_found;

@@ -55,10 +55,12 @@ module _ {A : Type 0} (test : Token → Bool) (reader : Reader A) where
         ∙ e;
   }
 
+  -- one turn more
   pub going_turn : (front : List A) (ts : List Token) (a : A) (mid : List Token) (total : Reading (List A)) → Going test reader front ts total
       → starts test ts ≡ true → reader ts ≡ Ok (a, mid) → length mid < length ts → Going test reader (front ++ a ∷ []) mid total
   going_turn front ts a mid total going some is short = turn_by going.fuel front ts a mid total going.enough going.rest some is short
 
+  -- the last turn has been read
   pub going_end : (front : List A) (ts : List Token) (total : Reading (List A)) → Going test reader front ts total → starts test ts ≡ false → total ≡ Ok (front, ts)
   going_end front ts total going none =
       sym going.rest ∙ ap (behind front) (stop_is going.fuel ts none) ∙ ap (λ (l : List A). read (List A) (l, ts)) (append-nil front)
@@ -70,6 +72,7 @@ module _ {A : Type 0} (test : Token → Bool) (reader : Reader A) where
   stuck_by (suc n) front ts bad total le e some is =
       sym e ∙ ap (behind front) (turn_is n ts some ∙ ap (λ (r : Reading A). r >>= (λ x. repeats test reader n x.1 >>= (λ y. read (List A) (x.0 ∷ y.0, y.1)))) is)
 
+  -- a turn that can't be read stops the list there
   pub going_stuck : (front : List A) (ts bad : List Token) (total : Reading (List A)) → Going test reader front ts total
       → starts test ts ≡ true → reader ts ≡ Err bad → total ≡ Err bad
   going_stuck front ts bad total going some is = stuck_by going.fuel front ts bad total going.enough going.rest some is
@@ -97,6 +100,7 @@ module _ {A : Type 0} (symbol : List ℕ) (reader : Reader A) where
 -- ---- sums and products: one value as it is, or several
 
 module _ {A : Type 0} (f : List A → A) (symbol : List ℕ) (reader : Reader A) where
+  -- what is read of the whole list
   abbrev whole : A × List Token → Reading A
   whole x = (every (says symbol) (past symbol reader) x.1 >>= (λ y. read (A × List A) ((x.0, y.0), y.1))) >>= (λ z. read (List A) (z.0.0 ∷ z.0.1, z.1)) >>= (λ w. read A (several f w.0, w.1))
 
@@ -106,6 +110,7 @@ module _ {A : Type 0} (f : List A → A) (symbol : List ℕ) (reader : Reader A)
   several_by (Ok x) = refl
   several_by (Err bad) = refl
 
+  -- a list whose first part can't be read stops there
   pub several_stuck : (ts bad : List Token) → reader ts ≡ Err bad → makes (several f) (parted symbol reader) ts ≡ Err bad
   several_stuck ts bad e = several_by (reader ts) ∙ ap (λ (r : Reading A). r >>= whole) e
 
@@ -115,10 +120,12 @@ module _ {A : Type 0} (f : List A → A) (symbol : List ℕ) (reader : Reader A)
       several_by (reader ts) ∙ ap (λ (r : Reading A). r >>= whole) e
       ∙ ap (λ (r : Reading (List A)). r >>= (λ w. read A (several f w.0, w.1))) (read_on symbol reader a (every (says symbol) (past symbol reader) mid))
 
+  -- one that stops at a later part stops there
   pub several_later : (ts : List Token) (a : A) (mid bad : List Token) → reader ts ≡ Ok (a, mid)
       → makes (λ xs. a ∷ xs) (every (says symbol) (past symbol reader)) mid ≡ Err bad → makes (several f) (parted symbol reader) ts ≡ Err bad
   several_later ts a mid bad e stuck = several_is ts a mid e ∙ ap (λ (r : Reading (List A)). r >>= (λ w. read A (several f w.0, w.1))) stuck
 
+  -- a list of one part is that part
   pub several_one : (ts : List Token) (a : A) (mid : List Token) → reader ts ≡ Ok (a, mid) → starts (says symbol) mid ≡ false → makes (several f) (parted symbol reader) ts ≡ Ok (a, mid)
   several_one ts a mid e none =
       several_is ts a mid e
@@ -134,6 +141,7 @@ module _ {A : Type 0} (f : List A → A) (symbol : List ℕ) (reader : Reader A)
       let y = bind_ok (repeats (says symbol) (past symbol reader) n x.0.1) (λ y. read (List A) (x.0.0 ∷ y.0, y.1)) (xs, rest) x.2 in
       (x.0.0, y.0.0, sym (ap (λ (z : List A × List Token). z.0) (ok_same (List A) (x.0.0 ∷ y.0.0, y.0.1) (xs, rest) y.2)))
 
+  -- a list of more parts has them all
   pub several_more : (ts : List Token) (a : A) (mid : List Token) (parts : List A) (rest : List Token) → reader ts ≡ Ok (a, mid) → starts (says symbol) mid ≡ true
       → makes (λ xs. a ∷ xs) (every (says symbol) (past symbol reader)) mid ≡ Ok (parts, rest) → makes (several f) (parted symbol reader) ts ≡ Ok (f parts, rest)
   several_more ts a mid parts rest e some all =

@@ -13,9 +13,11 @@ module _ {A : Type 0} (test : Token → Bool) (more : Token → Bool)
     {reader : Reader A} {phrase : Phrase A} {goes_on : Token → Bool} (reads : Reads reader phrase goes_on)
     (begins : BeginsBy test phrase) (stop : (t : Token) → more t ≡ false → goes_on t ≡ false)
     (more_stops : (t : Token) → more t ≡ false → test t ≡ false) (test_stops : (t : Token) → test t ≡ true → goes_on t ≡ false) where
+  -- one part before the others
   abbrev joined : A → List A × List Token → Reading (List A)
   joined a y = Ok (a ∷ y.0, y.1)
 
+  -- one part and, with so many tokens left, the others
   abbrev turn : ℕ → A × List Token → Reading (List A)
   turn n x = repeats test reader n x.1 >>= joined x.0
 
@@ -206,6 +208,7 @@ module _ {A : Type 0} (test : Token → Bool) (more : Token → Bool)
     | inr h ↦ absurd (let no_error = h.1 in cc)
   ]
 
+  -- the reader of a list reads the phrase of a list
   pub reads_many : Reads (every test reader) (many phrase) more
   reads_many = record {
     found = λ ts xs rest e.
@@ -246,6 +249,7 @@ module _ {A : Type 0} (symbol : List ℕ) (more : Token → Bool) {reader : Read
       let same : back ≡ (b.0 ∷ b.1) ++ h.1 = h.2 ∙ ap (λ (l : List Token). l ++ h.1) b.2 in
       subst (λ (l : List Token). Stops goes_on (l ++ rest)) (sym same) (symbol_stops b.0 b.3)
 
+  -- so does that of a list with separators
   pub reads_separated : Reads (parted symbol reader) (separated symbol phrase) more
   reads_separated = reads_made (λ (x : A × List A). x.0 ∷ x.1) (reads_and reads others_read stops_at)
 
@@ -270,11 +274,13 @@ module _ {A : Type 0} (test : Token → Bool) (more : Token → Bool) {reader : 
   optional_from ts None h = inr (h, refl)
   optional_from ts (Some a) h = inl (a, h, refl)
 
+  -- and that of what may be left out
   pub reads_optional : Reads (perhaps test reader) (optional phrase) more
   reads_optional = reads_same (reads_or test more (reads_made {B = Option A} Some reads) some_begins stop (reads_empty {A = Option A} None more) apart (λ t e. e)) optional_to optional_from
 
 -- what the whole list spells
 module _ {A : Type 0} {reader : Reader A} {phrase : Phrase A} {goes_on : Token → Bool} (reads : Reads reader phrase goes_on) where
+  -- what the phrase says of all tokens is read of them
   pub all_only : (ts : List Token) (a : A) → phrase ts a → finished (reader ts) ≡ Ok a
   all_only ts a spelled =
       ap finished (ap reader (sym (append-nil ts)) ∙ reads.only ts a [] spelled tt)
@@ -295,6 +301,7 @@ module _ {A : Type 0} {reader : Reader A} {phrase : Phrase A} {goes_on : Token �
       let whole : found.taken ≡ ts = sym (append-nil found.taken) ∙ ap (λ (l : List Token). found.taken ++ l) (sym h.0) ∙ sym found.parts in
       subst (λ (l : List Token). phrase l a) whole (subst (phrase found.taken) h.1 found.spelled)
 
+  -- what is read of all tokens the phrase says of them
   pub all_found : (ts : List Token) (a : A) → finished (reader ts) ≡ Ok a → phrase ts a
   all_found ts a e = all_found_by (reader ts) ts a refl e
 
@@ -303,6 +310,7 @@ module _ {A : Type 0} {reader : Reader A} {phrase : Phrase A} {goes_on : Token �
   IsDead taken [] = (a : A) → phrase taken a → ⊥
   IsDead taken (t ∷ ts) = (more : List Token) (a : A) → phrase ((taken ++ t ∷ []) ++ more) a → ⊥
 
+  -- the phrase may begin with the tokens before these, and with no more of them
   pub record AllStuck (ts bad : List Token) : Type 0 where
     pub taken : List Token
     pub parts : ts ≡ taken ++ bad
@@ -351,5 +359,6 @@ module _ {A : Type 0} {reader : Reader A} {phrase : Phrase A} {goes_on : Token �
             ∙ left_over x.0 h.0 h.1 other (subst (λ (l : List Token). SameHead l other) h.2 head));
       }
 
+  -- a reader that stops says where no phrase goes on
   pub all_stuck : (ts bad : List Token) → finished (reader ts) ≡ Err bad → AllStuck ts bad
   all_stuck ts bad e = all_stuck_by (reader ts) ts bad refl e

@@ -171,6 +171,7 @@ module _ {A : Type 0} (value : Token → Option A) (Gives : Token → A → Type
       let h = given_err (value t) t ts bad e in
       stuck_here (takes value) (one Gives) (t ∷ ts) bad (sample ∷ []) a h.1 (sample, refl, gives) (λ other s. token_fails t ts other h.0 s)
 
+  -- the reader of one token reads the phrase of one token
   pub reads_token : (sample : Token) (a : A) → Gives sample a → Reads (takes value) (one Gives) never
   reads_token sample a gives = record {
     found = token_found;
@@ -217,6 +218,7 @@ module _ {A B : Type 0} (f : A → B) {reader : Reader A} {phrase : Phrase A} {g
     | inr h ↦ absurd (let wrong = h.2 in cc)
   ]
 
+  -- a reader with a function reads the phrase with that function
   pub reads_made : Reads (makes f reader) (made f phrase) goes_on
   reads_made = record {
     found = makes_found;

@@ -50,6 +50,7 @@ module _ (text : List ℕ) (tokens : List Token) (end : Place) (whole : Bool) (l
   pub one_list : (others : List Spelled) → AreTokens text others → (others ≡ map (seen text) tokens) × (whole ≡ true)
   one_list others h = lexed_all text tokens end whole lexed others h
 
+  -- a text whose tokens are a program is spelled by that one alone
   pub only_program : (p : Program) → whole ≡ true → finished (program_by (map (seen text) tokens)) ≡ Ok p → IsOnlyProgram text p
   only_program p is e = record {
     spelled = (map (seen text) tokens, (lexed_whole text tokens end whole lexed is).all, all_found reads_program (map (seen text) tokens) p e);
@@ -63,6 +64,7 @@ module _ (text : List ℕ) (tokens : List Token) (end : Place) (whole : Bool) (l
   no_fit at taken [] stuck dead = dead refl
   no_fit at taken (b ∷ bs) stuck dead = λ t rest parts is_token same goes_on. stuck t.text rest parts is_token
 
+  -- a text with a byte that begins no token is refused there
   pub not_whole : (p : Program) → whole ≡ false → finished (program_by (map (seen text) tokens)) ≡ Ok p → IsRefusedAt text end × ((q : Program) → Spells q text → ⊥)
   not_whole p isnt e = (
     record {
@@ -113,6 +115,7 @@ module _ (text : List ℕ) (tokens : List Token) (end : Place) (whole : Bool) (l
   no_program taken [] parts dead = λ q h. dead q (subst (λ (ts : List Spelled). program ts q) (parts ∙ append-nil taken) h)
   no_program taken (t ∷ ts) parts dead = λ q h. dead ts q (subst (λ (us : List Spelled). program us q) (parts ∙ sym (append_assoc taken (t ∷ []) ts)) h)
 
+  -- tokens that are no program are refused where none goes on
   pub refused_at : (bad : List Spelled) → finished (program_by (map (seen text) tokens)) ≡ Err bad → IsRefusedAt text (place_at end bad) × ((q : Program) → Spells q text → ⊥)
   refused_at bad e =
       let stuck = all_stuck reads_program (map (seen text) tokens) bad e in (

@@ -7,6 +7,7 @@ use Rattle.mk_ast.specs.declared.tree.What.TheVariants as what
 use Rattle.mk_ast.specs.declared.refusal.SourceRefusal.{SourceRefusal}
 use Rattle.mk_ast.specs.declared.refusal.SourceRefusal.TheVariants.{Syntax, Memory}
 use Rattle.mk_ast.specs.Spells.{Spells, IsRefusedAt}
+use Rattle.mk_parse.specs.declared.TheConstants.{MOST_WHOLE_MAPS}
 
 -- the text spells this program, and no other
 pub record IsOnlyProgram (text : List ℕ) (p : Program) : Type 0 where
@@ -40,4 +41,4 @@ count-7-8 = refl
 
 -- at most 32,768 of the maps have eight images, whatever the others have
 abbrev pub FewMaps : Program → Type 0
-FewMaps p = count_by has_eight (maps_of p.decls) ≤ 32768
+FewMaps p = count_by has_eight (maps_of p.decls) ≤ MOST_WHOLE_MAPS

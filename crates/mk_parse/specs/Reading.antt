@@ -16,6 +16,7 @@ use Rattle.mk_ast.specs.declared.tree.Expr.TheVariants as expr
 use Rattle.mk_ast.specs.declared.tree.Index.{Index}
 use Rattle.mk_ast.specs.declared.tree.Index.TheVariants as index
 use Rattle.mk_ast.specs.declared.tree.Link.{Link}
+use Rattle.mk_ast.specs.declared.TheConstants.{GREATEST_NUMBER}
 use Rattle.mk_ast.specs.declared.tree.Link.TheVariants as link
 use Rattle.mk_ast.specs.Tokens.{Token, begins_word, goes_on, reserved, hex_value}
 use Rattle.mk_ast.specs.Phrases.{several}
@@ -62,7 +63,7 @@ last_below (suc n) p = if p n then Some n else last_below n p
 
 -- the number that this writes
 unfoldable pub number_text : List ℕ → Option ℕ
-number_text text = last_below 65536 (λ n. bytes_eq text (decimal n))
+number_text text = last_below (GREATEST_NUMBER + 1) (λ n. bytes_eq text (decimal n))
 
 -- the number that the token is
 abbrev pub number_of : Token → Option ℕ

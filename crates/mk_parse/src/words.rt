@@ -3,12 +3,10 @@
 ghost use Rattle.std.specs.Prelude.{◌≡◌, ℕ, ◌≤◌, ◌↔◌, IfSome, IsTrue, MatchOption, Contains};
 ghost use Rattle.mk_ast.specs.Tokens.{hex_value, reserved, IsElement, IsNumber};
 
+use mk_ast::GREATEST_NUMBER;
 use mk_base::decimal_number;
 
-/// The greatest number of a source.
-const GREATEST_NUMBER: u32 = 65_535;
-
-/// The number, of at most 65,535, that this text writes in decimal digits without leading zeros.
+/// The number, of at most `GREATEST_NUMBER`, that this text writes in decimal digits without leading zeros.
 pub(crate) fn number(text: &[u8]) -> Option<u32>
     ensures { MatchOption result ((n : ℕ) → IsNumber n text.now → ⊥) (λ n. IsNumber n text.now) }
 {

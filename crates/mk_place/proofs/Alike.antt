@@ -6,7 +6,8 @@ use Rattle.std.proofs.Math.Path.{fun_ext}
 use Rattle.mk_ssa.specs.Values.{Values, IsValues}
 use Rattle.mk_rules.specs.Claimed.{Claimed}
 use Rattle.mk_rules.specs.Reaches.{links}
-use Rattle.mk_place.specs.Uses.{Use, plain, uses}
+use Rattle.mk_rules.specs.Uses.{Use}
+use Rattle.mk_place.specs.Uses.{shape_of_values, uses}
 use Rattle.mk_place.specs.Layout.{Marks, laid_out}
 use Rattle.mk_place.specs.Placed.{NeedsRefresh, Placed}
 use Rattle.mk_place.specs.Needs.{mark_by}
@@ -34,7 +35,7 @@ module _ (s : Values) (is : IsValues s) where
       let behind : Agrees (inputs s) placed.marks us =
       agrees-behind cert placed (front ++ u ∷ []) us (split ∙ sym (append_assoc front (u ∷ []) us)) in
       let needed : (placed.marks u.value u.place ≡ true) ↔ NeedsRefresh (inputs s) (links_of s placed.marks) placed.marks u us =
-      subst (λ (c : Claimed). (placed.marks u.value u.place ≡ true) ↔ NeedsRefresh (inputs s) (links (plain s) c.blocks) placed.marks u us)
+      subst (λ (c : Claimed). (placed.marks u.value u.place ≡ true) ↔ NeedsRefresh (inputs s) (links (shape_of_values s) c.blocks) placed.marks u us)
       placed.laid (placed.needed front us u split) in (
         same-cases (placed.marks u.value u.place) (mark_by (inputs s) us u)
             (λ on. needs-marked s is placed.marks front us u split behind (needed.0 on))

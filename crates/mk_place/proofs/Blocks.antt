@@ -8,7 +8,8 @@ use Rattle.mk_ssa.specs.declared.Op.TheVariants.{Refresh}
 use Rattle.mk_ssa.specs.declared.Operand.TheVariants.{Secret}
 use Rattle.mk_ssa.specs.Kinds.{shared_operands}
 use Rattle.mk_ssa.proofs.Lists.{slice_get-more, slice_get-last}
-use Rattle.mk_place.specs.Layout.{Marks, one, blocks_before, own_block, refresh_block, renamed, refreshed, with_operands, refresh_at, blocks_of, blocks_from}
+use Rattle.mk_ssa.specs.Operators.{with_operands_by}
+use Rattle.mk_place.specs.Layout.{Marks, one, blocks_before, own_block, refresh_block, renamed, refreshed, refresh_at, blocks_of, blocks_from}
 use Rattle.mk_place.proofs.Naming.{refresh-long}
 
 -- an element behind others
@@ -41,7 +42,7 @@ refreshes-long marks i op =
 -- a value has as many blocks as marks, and its own
 pub of-long : (marks : Marks) (i : ℕ) (op : Op) → length (blocks_of marks i op) ≡ one (marks i 0) + one (marks i 1) + 1
 of-long marks i op =
-    omega (arith, length-append (refresh_at marks i 0 op ++ refresh_at marks i 1 op) (with_operands (refreshed marks i) (renamed marks) op ∷ []), refreshes-long marks i op)
+    omega (arith, length-append (refresh_at marks i 0 op ++ refresh_at marks i 1 op) (with_operands_by (refreshed marks i) (renamed marks) op ∷ []), refreshes-long marks i op)
 
 -- those of values from one on
 from-long : (marks : Marks) (i : ℕ) (ops : List Op) → blocks_before marks i + length (blocks_from marks i ops) ≡ blocks_before marks (i + length ops)
@@ -96,9 +97,9 @@ all-there marks values i op n x m there at place =
 
 -- a value's own block stands where it should
 pub own-there : (marks : Marks) (values : List Op) (i : ℕ) (op : Op) → slice_get values i ≡ Some op
-    → slice_get (blocks_from marks 0 values) (own_block marks i) ≡ Some (with_operands (refreshed marks i) (renamed marks) op)
+    → slice_get (blocks_from marks 0 values) (own_block marks i) ≡ Some (with_operands_by (refreshed marks i) (renamed marks) op)
 own-there marks values i op there =
-    let own : Op = with_operands (refreshed marks i) (renamed marks) op in
+    let own : Op = with_operands_by (refreshed marks i) (renamed marks) op in
     let rs : List Op = refresh_at marks i 0 op ++ refresh_at marks i 1 op in
     all-there marks values i op (length rs) own (own_block marks i) there (slice_get-last rs own) (omega (arith, refreshes-long marks i op))
 
@@ -113,13 +114,13 @@ pub refresh-there : (marks : Marks) (values : List Op) (i k : ℕ) (op : Op) →
     → slice_get (blocks_from marks 0 values) (refresh_block marks i k)
     ≡ Some (Refresh (renamed marks (slice_index_or (shared_operands op) k (Secret 0))))
 refresh-there marks values i zero op there few on =
-    let own : Op = with_operands (refreshed marks i) (renamed marks) op in
+    let own : Op = with_operands_by (refreshed marks i) (renamed marks) op in
     let x : Op = Refresh (renamed marks (slice_index_or (shared_operands op) 0 (Secret 0))) in
     let at : slice_get (blocks_of marks i op) 0 ≡ Some x =
     ap (λ (rs : List Op). slice_get ((rs ++ refresh_at marks i 1 op) ++ own ∷ []) 0) (refresh-is marks i 0 op on) in
     all-there marks values i op 0 x (blocks_before marks i) there at (omega arith)
 refresh-there marks values i (suc zero) op there few on =
-    let own : Op = with_operands (refreshed marks i) (renamed marks) op in
+    let own : Op = with_operands_by (refreshed marks i) (renamed marks) op in
     let x : Op = Refresh (renamed marks (slice_index_or (shared_operands op) 1 (Secret 0))) in
     let first : List Op = refresh_at marks i 0 op in
     let at : slice_get (blocks_of marks i op) (length first) ≡ Some x =

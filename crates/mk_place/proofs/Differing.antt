@@ -8,11 +8,11 @@ use Rattle.mk_ssa.specs.declared.Op.TheVariants.{Const, PubAdd, PubMul, PubSq, P
 use Rattle.mk_ssa.specs.declared.Operand.{Operand}
 use Rattle.mk_ssa.specs.declared.Operand.TheVariants.{Secret, Public, Block}
 use Rattle.mk_ssa.specs.Kinds.{shared_operands, public_operands}
-use Rattle.mk_ssa.specs.Operators.{operator}
+use Rattle.mk_ssa.specs.Operators.{operator, with_operands_by}
 use Rattle.mk_ssa.specs.Values.{Values}
 use Rattle.mk_simplify.specs.Simplified.{AllDiffer}
 use Rattle.mk_simplify.proofs.Operators.{operands-few, same-op}
-use Rattle.mk_place.specs.Layout.{Marks, own_block, refresh_block, renamed, refreshed, with_operands, blocks_from, laid_out}
+use Rattle.mk_place.specs.Layout.{Marks, own_block, refresh_block, renamed, refreshed, blocks_from, laid_out}
 use Rattle.mk_place.specs.Different.{IsRefresh, AllDifferButRefreshes}
 use Rattle.mk_place.proofs.Blocks.{own-there, refresh-there, each-block, own-once, own-no-refresh, refresh-once}
 
@@ -23,7 +23,7 @@ places shared k (v ∷ vs) = shared k v ∷ places shared (suc k) vs
 
 module _ (shared : ℕ → Operand → Operand) (public : Operand → Operand) where
   -- other operands leave the operator
-  pub operator-laid : (op : Op) → operator (with_operands shared public op) ≡ operator op
+  pub operator-laid : (op : Op) → operator (with_operands_by shared public op) ≡ operator op
   operator-laid (Const value) = refl
   operator-laid (PubAdd left right) = refl
   operator-laid (PubMul left right) = refl
@@ -39,7 +39,7 @@ module _ (shared : ℕ → Operand → Operand) (public : Operand → Operand) w
   operator-laid (Refresh arg) = refl
 
   -- the shared ones are those by place
-  pub shared-laid : (op : Op) → shared_operands (with_operands shared public op) ≡ places shared 0 (shared_operands op)
+  pub shared-laid : (op : Op) → shared_operands (with_operands_by shared public op) ≡ places shared 0 (shared_operands op)
   unfolding places
   shared-laid (Const value) = refl
   shared-laid (PubAdd left right) = refl
@@ -56,7 +56,7 @@ module _ (shared : ℕ → Operand → Operand) (public : Operand → Operand) w
   shared-laid (Refresh arg) = refl
 
   -- the public ones are the images
-  pub public-laid : (op : Op) → public_operands (with_operands shared public op) ≡ map public (public_operands op)
+  pub public-laid : (op : Op) → public_operands (with_operands_by shared public op) ≡ map public (public_operands op)
   public-laid (Const value) = refl
   public-laid (PubAdd left right) = refl
   public-laid (PubMul left right) = refl
@@ -154,7 +154,7 @@ module _ (marks : Marks) where
       ap₂ (λ x xs. x ∷ xs) (renamed-once v w here) (public-once vs ws rest)
 
   -- two values with equal own blocks are one or equal
-  own-differ : (i j : ℕ) (x y : Op) → with_operands (refreshed marks i) (renamed marks) x ≡ with_operands (refreshed marks j) (renamed marks) y
+  own-differ : (i j : ℕ) (x y : Op) → with_operands_by (refreshed marks i) (renamed marks) x ≡ with_operands_by (refreshed marks j) (renamed marks) y
       → (i ≡ j) ⊎ (x ≡ y)
   own-differ i j x y same =
       let few : 0 + length (shared_operands x) ≤ 2 = omega (arith, operands-few x, length-append (shared_operands x) (public_operands x)) in
@@ -175,7 +175,7 @@ pub record IsOwn (marks : Marks) (values : List Op) (a : ℕ) (op : Op) : Type 0
   pub own : Op
   pub there : slice_get values value ≡ Some own
   pub place : a ≡ own_block marks value
-  pub is : with_operands (refreshed marks value) (renamed marks) own ≡ op
+  pub is : with_operands_by (refreshed marks value) (renamed marks) own ≡ op
 
 -- each is
 pub refresh-or-own : (marks : Marks) (values : List Op) (a : ℕ) (op : Op) → slice_get (blocks_from marks 0 values) a ≡ Some op
@@ -189,7 +189,7 @@ refresh-or-own marks values a op there = elim (each-block marks values a (slice_
         own = x;
         there = at;
         place = own.2;
-        is = same_Some (with_operands (refreshed marks own.0) (renamed marks) x) op
+        is = same_Some (with_operands_by (refreshed marks own.0) (renamed marks) x) op
             (sym (own-there marks values own.0 x at) ∙ ap (slice_get (blocks_from marks 0 values)) (sym own.2) ∙ there);
       })
   | inr fresh ↦

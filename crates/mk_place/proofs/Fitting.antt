@@ -18,8 +18,9 @@ use Rattle.mk_rules.specs.Shape.{Shape}
 use Rattle.mk_rules.specs.Wired.{IsSharedThere, IsPublicThere, IsWired, AllWired, Wired}
 use Rattle.mk_rules.proofs.Operators.{wired-operands}
 use Rattle.mk_rules.proofs.Wired.{Wired-more}
-use Rattle.mk_place.specs.Uses.{plain}
-use Rattle.mk_place.specs.Layout.{Marks, one, blocks_before, own_block, refresh_block, renamed, refreshed, with_operands, blocks_from, laid_out}
+use Rattle.mk_ssa.specs.Operators.{with_operands_by}
+use Rattle.mk_place.specs.Uses.{shape_of_values}
+use Rattle.mk_place.specs.Layout.{Marks, one, blocks_before, own_block, refresh_block, renamed, refreshed, blocks_from, laid_out}
 use Rattle.mk_place.proofs.Wiring.{wired-value, each-at}
 use Rattle.mk_place.proofs.Blocks.{own-there, refresh-there, blocks-length, each-block, blocks-before-after, refresh-within}
 
@@ -79,7 +80,7 @@ wired-all shape blocks each =
     subst (Wired shape) (take_all (length blocks) blocks (omega arith)) (wired-front shape blocks each (length blocks) (omega arith))
 
 -- other operands make no other kind of value
-public-same : (shared : ℕ → Operand → Operand) (public : Operand → Operand) (op : Op) → is_public (with_operands shared public op) ≡ is_public op
+public-same : (shared : ℕ → Operand → Operand) (public : Operand → Operand) (op : Op) → is_public (with_operands_by shared public op) ≡ is_public op
 public-same shared public (Const value) = refl
 public-same shared public (PubAdd left right) = refl
 public-same shared public (PubMul left right) = refl
@@ -115,7 +116,7 @@ module _ (marks : Marks) (shape : Shape) (values : List Op) where
   block-kept i k m b behind there =
       let at = IsSomeAnd-value (slice_get (take i values) k) (λ op. is_public op ≡ b) there in
       let held = slice_get-front values i k at.0 at.1 in
-      let own : Op = with_operands (refreshed marks k) (renamed marks) at.0 in
+      let own : Op = with_operands_by (refreshed marks k) (renamed marks) at.0 in
       IsSomeAnd-from (slice_get (take m blocks) (own_block marks k)) (λ op. is_public op ≡ b) own
       (slice_get-take blocks m (own_block marks k) (omega (arith, behind, blocks-before-after marks k i held.0)) ∙ own-there marks values k at.0 held.1)
       (public-same (refreshed marks k) (renamed marks) at.0 ∙ at.2)
@@ -152,7 +153,7 @@ module _ (marks : Marks) (shape : Shape) (values : List Op) where
 
   -- the own block of a value is wired
   own-wired : (i : ℕ) (op : Op) → slice_get values i ≡ Some op → IsWired shape (take i values) op
-      → IsWired shape (take (own_block marks i) blocks) (with_operands (refreshed marks i) (renamed marks) op)
+      → IsWired shape (take (own_block marks i) blocks) (with_operands_by (refreshed marks i) (renamed marks) op)
   own-wired i (Const value) there wired = wired
   own-wired i (PubAdd left right) there wired = (public-own i (PubAdd left right) there left wired.0, public-own i (PubAdd left right) there right wired.1)
   own-wired i (PubMul left right) there wired = (public-own i (PubMul left right) there left wired.0, public-own i (PubMul left right) there right wired.1)
@@ -188,7 +189,7 @@ module _ (marks : Marks) (shape : Shape) (values : List Op) where
         let i : ℕ = own.0 in
         let op : Op = get_or values i (Const 0) in
         let at : slice_get values i ≡ Some op = slice_get-get_or values i (Const 0) own.1 in
-        let y : Op = with_operands (refreshed marks i) (renamed marks) op in
+        let y : Op = with_operands_by (refreshed marks i) (renamed marks) op in
         let same : Some y ≡ Some x = sym (own-there marks values i op at) ∙ ap (slice_get blocks) (sym own.2) ∙ there in
         let is : y ≡ x = cc in
         subst (IsWired shape (take j blocks)) is
@@ -207,30 +208,30 @@ module _ (marks : Marks) (shape : Shape) (values : List Op) where
   ]
 
 -- an output is there in the one sense and in the other
-pub out-there : (s : Values) (v : Operand) → ssa.IsSharedThere (draft s) v → IsSharedThere (plain s) s.values v
+pub out-there : (s : Values) (v : Operand) → ssa.IsSharedThere (draft s) v → IsSharedThere (shape_of_values s) s.values v
 out-there s (Secret k) there = there
 out-there s (Public k) there = absurd there
 out-there s (Block k) there = there
 
 module _ (marks : Marks) (s : Values) (is : IsValues s) where
   -- the blocks are wired
-  pub laid-wired : AreAtUses marks s.values → Wired (plain s) (laid_out marks s).blocks
+  pub laid-wired : AreAtUses marks s.values → Wired (shape_of_values s) (laid_out marks s).blocks
   laid-wired used =
-      wired-all (plain s) (blocks_from marks 0 s.values) (each-wired marks (plain s) s.values used (λ i op there. wired-value s is i op there))
+      wired-all (shape_of_values s) (blocks_from marks 0 s.values) (each-wired marks (shape_of_values s) s.values used (λ i op there. wired-value s is i op there))
 
   -- the claims are there
-  claim-there : (v : Operand) → ssa.IsSharedThere (draft s) v → IsSharedThere (plain s) (laid_out marks s).blocks (renamed marks v)
+  claim-there : (v : Operand) → ssa.IsSharedThere (draft s) v → IsSharedThere (shape_of_values s) (laid_out marks s).blocks (renamed marks v)
   claim-there v there =
       let n : ℕ = length s.values in
       let m : ℕ = length (blocks_from marks 0 s.values) in
-      subst (λ (bs : List Op). IsSharedThere (plain s) bs (renamed marks v)) (take_all m (blocks_from marks 0 s.values) (omega arith))
-      (shared-kept marks (plain s) s.values n m v (omega (arith, blocks-length marks s.values))
-      (subst (λ (vs : List Op). IsSharedThere (plain s) vs v) (sym (take_all n s.values (omega arith))) (out-there s v there)))
+      subst (λ (bs : List Op). IsSharedThere (shape_of_values s) bs (renamed marks v)) (take_all m (blocks_from marks 0 s.values) (omega arith))
+      (shared-kept marks (shape_of_values s) s.values n m v (omega (arith, blocks-length marks s.values))
+      (subst (λ (vs : List Op). IsSharedThere (shape_of_values s) vs v) (sym (take_all n s.values (omega arith))) (out-there s v there)))
 
   -- each claim is there
-  pub laid-claims : All (IsSharedThere (plain s) (laid_out marks s).blocks) (laid_out marks s).claims
+  pub laid-claims : All (IsSharedThere (shape_of_values s) (laid_out marks s).blocks) (laid_out marks s).claims
   laid-claims =
-      All-map (IsSharedThere (plain s) (laid_out marks s).blocks) (renamed marks) s.outs (λ k d below. claim-there (get_or s.outs k d) (is.outs k d below))
+      All-map (IsSharedThere (shape_of_values s) (laid_out marks s).blocks) (renamed marks) s.outs (λ k d below. claim-there (get_or s.outs k d) (is.outs k d below))
 
 -- a mark counts at most once
 pub one-few : (b : Bool) → one b ≤ 1

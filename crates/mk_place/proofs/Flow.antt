@@ -4,19 +4,20 @@ use Rattle.std.specs.List.{Contains}
 use Rattle.std.proofs.lemmas.Bool.{cases_Bool, cases_eq, cond-true, cond-false, and_from, and_left, and_right, eqb-true, eq-eqb, ne_eqb, false≢true}
 use Rattle.std.proofs.lemmas.List.Elements.{Contains-append_right}
 use Rattle.mk_ssa.specs.Kinds.{Kind, Public, Linear, Strong}
-use Rattle.mk_place.specs.declared.need.Place.{Place}
-use Rattle.mk_place.specs.Uses.{Use}
+use Rattle.mk_rules.specs.declared.uses.OperandPlace.{OperandPlace}
+use Rattle.mk_rules.proofs.Probes.{Contains-cases, Contains-front, Contains-none, Contains-only}
+use Rattle.mk_rules.specs.Uses.{Use}
 use Rattle.mk_place.specs.Needs.{added, brought_by, brought, with_use, needs_by, mark_by, marks_by}
-use Rattle.mk_place.proofs.Joining.{none-in, only-in, in-cases, in-front, and-parts, clash-at, added-left, added-right, added-from}
+use Rattle.mk_place.proofs.Joining.{and-parts, clash-at, added-left, added-right, added-from}
 
 -- a use of this value
-pub with_use-own : (inputs : ℕ) (needs : ℕ → List Place) (u : Use) (v : ℕ) → v ≡ u.operand
+pub with_use-own : (inputs : ℕ) (needs : ℕ → List OperandPlace) (u : Use) (v : ℕ) → v ≡ u.operand
     → with_use inputs needs u v ≡ added (needs u.operand) (brought inputs needs u)
 with_use-own inputs needs u v same =
     cond-true (nat_eq v u.operand) (added (needs u.operand) (brought inputs needs u)) (needs v) (eq-eqb v u.operand same)
 
 -- a use of another one
-pub with_use-other : (inputs : ℕ) (needs : ℕ → List Place) (u : Use) (v : ℕ) → (v ≡ u.operand → ⊥) → with_use inputs needs u v ≡ needs v
+pub with_use-other : (inputs : ℕ) (needs : ℕ → List OperandPlace) (u : Use) (v : ℕ) → (v ≡ u.operand → ⊥) → with_use inputs needs u v ≡ needs v
 with_use-other inputs needs u v differ =
     cond-false (nat_eq v u.operand) (added (needs u.operand) (brought inputs needs u)) (needs v) (ne_eqb v u.operand differ)
 
@@ -27,40 +28,40 @@ needs-cons inputs u us v = refl
 
 module _ (inputs : ℕ) where
   -- what comes from later uses stays
-  pub comes-behind : (u : Use) (us : List Use) (v : ℕ) (p : Place) → Contains (needs_by inputs us v) p → Contains (needs_by inputs (u ∷ us) v) p
+  pub comes-behind : (u : Use) (us : List Use) (v : ℕ) (p : OperandPlace) → Contains (needs_by inputs us v) p → Contains (needs_by inputs (u ∷ us) v) p
   comes-behind u us v p held = elim (cases_eq v u.operand) [
     | inl same ↦
-        subst (λ (xs : List Place). Contains xs p) (sym (needs-cons inputs u us v ∙ with_use-own inputs (needs_by inputs us) u v same))
+        subst (λ (xs : List OperandPlace). Contains xs p) (sym (needs-cons inputs u us v ∙ with_use-own inputs (needs_by inputs us) u v same))
         (added-left (needs_by inputs us u.operand) (brought inputs (needs_by inputs us) u) p
         (subst (λ (w : ℕ). Contains (needs_by inputs us w) p) same held))
     | inr differ ↦
-        subst (λ (xs : List Place). Contains xs p) (sym (needs-cons inputs u us v ∙ with_use-other inputs (needs_by inputs us) u v differ)) held
+        subst (λ (xs : List OperandPlace). Contains xs p) (sym (needs-cons inputs u us v ∙ with_use-other inputs (needs_by inputs us) u v differ)) held
   ]
 
   -- what a use brings that isn't marked
-  pub comes-own : (u : Use) (us : List Use) (p : Place) → mark_by inputs us u ≡ false → Contains (brought inputs (needs_by inputs us) u) p
+  pub comes-own : (u : Use) (us : List Use) (p : OperandPlace) → mark_by inputs us u ≡ false → Contains (brought inputs (needs_by inputs us) u) p
       → Contains (needs_by inputs (u ∷ us) u.operand) p
   comes-own u us p kept held =
-      subst (λ (xs : List Place). Contains xs p) (sym (needs-cons inputs u us u.operand ∙ with_use-own inputs (needs_by inputs us) u u.operand refl))
+      subst (λ (xs : List OperandPlace). Contains xs p) (sym (needs-cons inputs u us u.operand ∙ with_use-own inputs (needs_by inputs us) u u.operand refl))
       (added-right (needs_by inputs us u.operand) (brought inputs (needs_by inputs us) u) p kept held)
 
   -- a use that brings a place to a value, and isn't marked
-  pub record IsBrought (us : List Use) (u : Use) (v : ℕ) (p : Place) : Type 0 where
+  pub record IsBrought (us : List Use) (u : Use) (v : ℕ) (p : OperandPlace) : Type 0 where
     pub same : v ≡ u.operand
     pub kept : mark_by inputs us u ≡ false
     pub brings : Contains (brought inputs (needs_by inputs us) u) p
 
   -- nothing else comes
-  pub comes-from : (u : Use) (us : List Use) (v : ℕ) (p : Place) → Contains (needs_by inputs (u ∷ us) v) p
+  pub comes-from : (u : Use) (us : List Use) (v : ℕ) (p : OperandPlace) → Contains (needs_by inputs (u ∷ us) v) p
       → IsBrought us u v p ⊎ Contains (needs_by inputs us v) p
   comes-from u us v p held = elim (cases_eq v u.operand) [
     | inl same ↦ elim (added-from (needs_by inputs us u.operand) (brought inputs (needs_by inputs us) u) p
-        (subst (λ (xs : List Place). Contains xs p) (needs-cons inputs u us v ∙ with_use-own inputs (needs_by inputs us) u v same) held)) [
+        (subst (λ (xs : List OperandPlace). Contains xs p) (needs-cons inputs u us v ∙ with_use-own inputs (needs_by inputs us) u v same) held)) [
           | inl behind ↦ inr (subst (λ (w : ℕ). Contains (needs_by inputs us w) p) (sym same) behind)
           | inr own ↦ inl (record { same = same; kept = own.0; brings = own.1 })
         ]
     | inr differ ↦
-        inr (subst (λ (xs : List Place). Contains xs p) (needs-cons inputs u us v ∙ with_use-other inputs (needs_by inputs us) u v differ) held)
+        inr (subst (λ (xs : List OperandPlace). Contains xs p) (needs-cons inputs u us v ∙ with_use-other inputs (needs_by inputs us) u v differ) held)
   ]
 
   -- a use among others
@@ -83,37 +84,37 @@ module _ (inputs : ℕ) where
 
   -- a use that is there is somewhere
   pub found-in : (us : List Use) (u : Use) → Contains us u → Found us (λ behind x. x ≡ u)
-  found-in [] u held = absurd (none-in u held)
-  found-in (x ∷ us) u held = elim (in-cases x us u held) [
+  found-in [] u held = absurd (Contains-none u held)
+  found-in (x ∷ us) u held = elim (Contains-cases x us u held) [
     | inl own ↦ record { front = []; here = x; behind = us; split = refl; holds = own }
     | inr rest ↦ found-behind x us (λ behind y. y ≡ u) (found-in us u rest)
   ]
 
   -- each place comes from a use
-  pub comes : (us : List Use) (v : ℕ) (p : Place) → Contains (needs_by inputs us v) p → Found us (λ behind u. IsBrought behind u v p)
+  pub comes : (us : List Use) (v : ℕ) (p : OperandPlace) → Contains (needs_by inputs us v) p → Found us (λ behind u. IsBrought behind u v p)
   unfolding needs_by
-  comes [] v p held = absurd (none-in p held)
+  comes [] v p held = absurd (Contains-none p held)
   comes (u ∷ us) v p held = elim (comes-from u us v p held) [
     | inl own ↦ record { front = []; here = u; behind = us; split = refl; holds = own }
     | inr behind ↦ found-behind u us (λ behind x. IsBrought behind x v p) (comes us v p behind)
   ]
 
   -- what comes to a value from later uses comes to it from all
-  pub comes-all : (front us : List Use) (v : ℕ) (p : Place) → Contains (needs_by inputs us v) p → Contains (needs_by inputs (front ++ us) v) p
+  pub comes-all : (front us : List Use) (v : ℕ) (p : OperandPlace) → Contains (needs_by inputs us v) p → Contains (needs_by inputs (front ++ us) v) p
   comes-all [] us v p held = held
   comes-all (x ∷ front) us v p held = comes-behind x (front ++ us) v p (comes-all front us v p held)
 
   -- what a use brings has no two places of one product, if needs haven't
-  brought-alone : (kind : Kind) (here : Place) (own : List Place) (p q : Place)
-      → ((p q : Place) → Contains own p → Contains own q → p.value ≡ q.value → p.operand ≡ q.operand)
+  brought-alone : (kind : Kind) (here : OperandPlace) (own : List OperandPlace) (p q : OperandPlace)
+      → ((p q : OperandPlace) → Contains own p → Contains own q → p.value ≡ q.value → p.operand ≡ q.operand)
       → Contains (brought_by kind (here ∷ []) own) p → Contains (brought_by kind (here ∷ []) own) q → p.value ≡ q.value → p.operand ≡ q.operand
   brought-alone Public here own p q alone first second same = alone p q first second same
   brought-alone Linear here own p q alone first second same = alone p q first second same
   brought-alone Strong here own p q alone first second same =
-      sym (ap (λ (x : Place). x.operand) (only-in here p first)) ∙ ap (λ (x : Place). x.operand) (only-in here q second)
+      sym (ap (λ (x : OperandPlace). x.operand) (Contains-only here p first)) ∙ ap (λ (x : OperandPlace). x.operand) (Contains-only here q second)
 
   -- a place that comes by a use that isn't marked, and one that came before
-  apart : (us : List Use) (u : Use) (p q : Place) → mark_by inputs us u ≡ false → Contains (brought inputs (needs_by inputs us) u) p
+  apart : (us : List Use) (u : Use) (p q : OperandPlace) → mark_by inputs us u ≡ false → Contains (brought inputs (needs_by inputs us) u) p
       → Contains (needs_by inputs us u.operand) q → p.value ≡ q.value → p.operand ≡ q.operand
   apart us u p q kept brings held same = elim (cases_eq p.operand q.operand) [
     | inl equal ↦ equal
@@ -123,10 +124,10 @@ module _ (inputs : ℕ) where
   ]
 
   -- no value comes to two places of one product
-  pub alone : (us : List Use) (v : ℕ) (p q : Place) → Contains (needs_by inputs us v) p → Contains (needs_by inputs us v) q → p.value ≡ q.value
+  pub alone : (us : List Use) (v : ℕ) (p q : OperandPlace) → Contains (needs_by inputs us v) p → Contains (needs_by inputs us v) q → p.value ≡ q.value
       → p.operand ≡ q.operand
   unfolding needs_by
-  alone [] v p q first second same = absurd (none-in p first)
+  alone [] v p q first second same = absurd (Contains-none p first)
   alone (u ∷ us) v p q first second same = elim (comes-from u us v p first) [
     | inl own ↦ elim (comes-from u us v q second) [
       | inl also ↦
@@ -166,7 +167,7 @@ module _ (inputs : ℕ) where
   marks-at (x ∷ front) u us ranked =
       cond-false (nat_eq u.value x.value && nat_eq u.place x.place) (mark_by inputs (front ++ u ∷ us) x)
       (marks_by inputs (front ++ u ∷ us) u.value u.place)
-      (before-other x u (ranked.0 u (Contains-append_right front (u ∷ us) u (in-front u us))))
+      (before-other x u (ranked.0 u (Contains-append_right front (u ∷ us) u (Contains-front u us))))
       ∙ marks-at front u us ranked.1
 
   -- a marked use

@@ -6,21 +6,23 @@ use Rattle.std.proofs.lemmas.Bool.{cases_eq, cases_lt}
 use Rattle.std.proofs.lemmas.List.{append-nil, length-append, length-replicate, get_or_append_left, get_or_past, get_or_push, get_or-replicate}
 use Rattle.std.specs.Int.{bit_at}
 use Rattle.std.proofs.lemmas.Nat.Bits.{bit_at-zero}
-use Rattle.std.proofs.lemmas.List.Elements.{Contains-append_left, Contains-append_right, Contains-push, Contains-push_cases}
+use Rattle.std.proofs.lemmas.List.Elements.{Contains-append_right}
 use Rattle.std.proofs.lemmas.Option.{get_or_from_slice_get, slice_get_within}
 use Rattle.mk_ssa.specs.declared.Op.TheVariants.{Const}
 use Rattle.mk_ssa.specs.Kinds.{Kind, kind}
 use Rattle.mk_ssa.specs.Values.{Values, IsValues}
 use Rattle.mk_rules.specs.Rows.{HasBit}
-use Rattle.mk_place.specs.declared.need.Place.{Place}
-use Rattle.mk_place.specs.Uses.{Use, uses}
+use Rattle.mk_rules.specs.declared.uses.OperandPlace.{OperandPlace}
+use Rattle.mk_rules.proofs.Probes.{Contains-more, Contains-front}
+use Rattle.mk_rules.proofs.Noting.{noted-other, noted-own, place_of}
+use Rattle.mk_rules.proofs.Using.{IsUse, use-is}
+use Rattle.mk_rules.specs.Uses.{Use, last_first, place_of_use, shared_numbers}
+use Rattle.mk_place.specs.Uses.{uses, shape_of_values}
 use Rattle.mk_place.specs.Needs.{clash, added, brought_by, brought, needs_by, marks_by}
-use Rattle.mk_place.specs.Marking.{IsNeed, all_marks, brings, final_need, inputs, last_first, place_of_use, shared_numbers}
-use Rattle.mk_place.proofs.Joining.{none-in, in-cases, in-front, in-behind, place_of}
+use Rattle.mk_place.specs.Marking.{IsNeed, all_marks, brings, final_need, inputs}
 use Rattle.mk_place.proofs.Flow.{Ranked, marks-at, needs-cons, with_use-own, with_use-other}
-use Rattle.mk_place.proofs.Using.{IsUse, use-is, use-before, uses-ranked}
+use Rattle.mk_place.proofs.Using.{use-before, uses-ranked}
 use Rattle.mk_place.proofs.Wiring.{operands-before}
-use Rattle.mk_place.proofs.Noting.{noted-own, noted-other}
 use Rattle.mk_place.proofs.Reaching.{before-unused, split-more}
 use Rattle.mk_place.proofs.Standing.{need-none}
 
@@ -30,8 +32,8 @@ pub needs-front : (inputs : ℕ) (front us : List Use) (v : ℕ) → ((x : Use) 
 needs-front inputs [] us v unused = refl
 needs-front inputs (x ∷ front) us v unused =
     needs-cons inputs x (front ++ us) v
-    ∙ with_use-other inputs (needs_by inputs (front ++ us)) x v (λ e. unused x (in-front x front) (sym e))
-    ∙ needs-front inputs front us v (λ y held. unused y (in-behind x front y held))
+    ∙ with_use-other inputs (needs_by inputs (front ++ us)) x v (λ e. unused x (Contains-front x front) (sym e))
+    ∙ needs-front inputs front us v (λ y held. unused y (Contains-more x front y held))
 
 -- the use of a value that has as many uses of it behind it, by where it stands
 pub record IsTurn (inputs v j : ℕ) (us : List Use) : Type 0 where
@@ -51,7 +53,7 @@ turn inputs v [] j below = absurd (omega (arith, below))
 turn inputs v (u ∷ us) j below = elim (cases_eq u.operand v) [
   | inl own ↦
       let long : length (last_first v (u ∷ us)) ≡ length (last_first v us) + 1 =
-      ap (λ (ps : List Place). length ps) (noted-own v u us own) ∙ length-append (last_first v us) (place_of_use u ∷ []) in
+      ap (λ (ps : List OperandPlace). length ps) (noted-own v u us own) ∙ length-append (last_first v us) (place_of_use u ∷ []) in
       elim (cases_lt j (length (last_first v us))) [
         | inl inner ↦
             let t : IsTurn inputs v j us = turn inputs v us j inner in
@@ -62,7 +64,7 @@ turn inputs v (u ∷ us) j below = elim (cases_eq u.operand v) [
               split = ap (λ (xs : List Use). u ∷ xs) t.split;
               own = t.own;
               before = t.before;
-              at = ap (λ (ps : List Place). get_or ps j (place_of 0 0)) (noted-own v u us own)
+              at = ap (λ (ps : List OperandPlace). get_or ps j (place_of 0 0)) (noted-own v u us own)
                   ∙ get_or_append_left (last_first v us) (place_of_use u ∷ []) (place_of 0 0) j inner ∙ t.at;
               first = λ e. absurd (omega (arith, e, long, inner));
             }
@@ -75,14 +77,14 @@ turn inputs v (u ∷ us) j below = elim (cases_eq u.operand v) [
               split = refl;
               own = own;
               before = e;
-              at = ap (λ (ps : List Place). get_or ps j (place_of 0 0)) (noted-own v u us own)
+              at = ap (λ (ps : List OperandPlace). get_or ps j (place_of 0 0)) (noted-own v u us own)
                   ∙ get_or_push (last_first v us) (place_of_use u) (place_of 0 0) j e;
               first = λ all. refl;
             }
       ]
   | inr other ↦
       let same : last_first v (u ∷ us) ≡ last_first v us = noted-other v u us other in
-      let long : length (last_first v (u ∷ us)) ≡ length (last_first v us) = ap (λ (ps : List Place). length ps) same in
+      let long : length (last_first v (u ∷ us)) ≡ length (last_first v us) = ap (λ (ps : List OperandPlace). length ps) same in
       let t : IsTurn inputs v j us = turn inputs v us j (omega (arith, below, long)) in
       record {
         front = u ∷ t.front;
@@ -91,69 +93,39 @@ turn inputs v (u ∷ us) j below = elim (cases_eq u.operand v) [
         split = ap (λ (xs : List Use). u ∷ xs) t.split;
         own = t.own;
         before = t.before;
-        at = ap (λ (ps : List Place). get_or ps j (place_of 0 0)) same ∙ t.at;
+        at = ap (λ (ps : List OperandPlace). get_or ps j (place_of 0 0)) same ∙ t.at;
         first = λ e. needs-cons inputs u us v ∙ with_use-other inputs (needs_by inputs us) u v (λ x. other (sym x)) ∙ t.first (omega (arith, e, long));
       }
 ]
 
 -- uses before others are noted behind them
-pub noted-front : (v : ℕ) (front us : List Use) → (more : List Place) × (last_first v (front ++ us) ≡ last_first v us ++ more)
+pub noted-front : (v : ℕ) (front us : List Use) → (more : List OperandPlace) × (last_first v (front ++ us) ≡ last_first v us ++ more)
 noted-front v [] us = ([], sym (append-nil (last_first v us)))
 noted-front v (x ∷ front) us =
     let rest = noted-front v front us in
     elim (cases_eq x.operand v) [
       | inl own ↦ (
         rest.0 ++ place_of_use x ∷ [],
-        noted-own v x (front ++ us) own ∙ ap (λ (ps : List Place). ps ++ place_of_use x ∷ []) rest.1
+        noted-own v x (front ++ us) own ∙ ap (λ (ps : List OperandPlace). ps ++ place_of_use x ∷ []) rest.1
             ∙ append_assoc (last_first v us) rest.0 (place_of_use x ∷ []),
       )
       | inr other ↦ (rest.0, noted-other v x (front ++ us) other ∙ rest.1)
     ]
 
--- each place that is noted is that of a use of the value
-pub noted-from : (v : ℕ) (us : List Use) (p : Place) → Contains (last_first v us) p
-    → (u : Use) × Contains us u × (u.operand ≡ v) × (place_of_use u ≡ p)
-unfolding last_first
-noted-from v [] p held = absurd (none-in p held)
-noted-from v (u ∷ us) p held = elim (cases_eq u.operand v) [
-  | inl own ↦ elim (Contains-push_cases (last_first v us) (place_of_use u) p (subst (λ (ps : List Place). Contains ps p) (noted-own v u us own) held)) [
-    | inl before ↦ let found = noted-from v us p before in (found.0, in-behind u us found.0 found.1, found.2, found.3)
-    | inr here ↦ (u, in-front u us, own, here)
-  ]
-  | inr other ↦
-      let found = noted-from v us p (subst (λ (ps : List Place). Contains ps p) (noted-other v u us other) held) in
-      (found.0, in-behind u us found.0 found.1, found.2, found.3)
-]
-
--- and each use of it is noted
-pub noted-in : (v : ℕ) (us : List Use) (u : Use) → Contains us u → u.operand ≡ v → Contains (last_first v us) (place_of_use u)
-noted-in v [] u held own = absurd (none-in u held)
-noted-in v (x ∷ us) u held own = elim (in-cases x us u held) [
-  | inl here ↦
-      subst (λ (ps : List Place). Contains ps (place_of_use u)) (sym (noted-own v x us (ap (λ (y : Use). y.operand) here ∙ own)))
-      (subst (λ (y : Use). Contains (last_first v us ++ place_of_use y ∷ []) (place_of_use u)) (sym here) (Contains-push (last_first v us) (place_of_use u)))
-  | inr rest ↦ elim (cases_eq x.operand v) [
-    | inl also ↦
-        subst (λ (ps : List Place). Contains ps (place_of_use u)) (sym (noted-own v x us also))
-        (Contains-append_left (last_first v us) (place_of_use x ∷ []) (place_of_use u) (noted-in v us u rest own))
-    | inr other ↦ subst (λ (ps : List Place). Contains ps (place_of_use u)) (sym (noted-other v x us other)) (noted-in v us u rest own)
-  ]
-]
-
 module _ (s : Values) (is : IsValues s) (front : List Use) (u : Use) (behind : List Use) (split : uses s ≡ front ++ u ∷ behind) where
   -- the use is one of them
   pub here-in : Contains (uses s) u
-  here-in = subst (λ (us : List Use). Contains us u) (sym split) (Contains-append_right front (u ∷ behind) u (in-front u behind))
+  here-in = subst (λ (us : List Use). Contains us u) (sym split) (Contains-append_right front (u ∷ behind) u (Contains-front u behind))
 
   -- by a value that is there
   pub here-there : u.value < length s.values
-  here-there = let found : IsUse s u = use-is s u here-in in slice_get_within s.values u.value found.op found.there
+  here-there = let found : IsUse (shape_of_values s) s.values u = use-is (shape_of_values s) s.values u here-in in slice_get_within s.values u.value found.op found.there
 
   -- at one of two places
   pub here-two : u.place < 2
   here-two =
-      let found : IsUse s u = use-is s u here-in in
-      omega (arith, slice_get_within (shared_numbers s found.op) u.place u.operand found.operand, (operands-before s is u.value found.op found.there).short)
+      let found : IsUse (shape_of_values s) s.values u = use-is (shape_of_values s) s.values u here-in in
+      omega (arith, slice_get_within (shared_numbers (shape_of_values s) found.op) u.place u.operand found.operand, (operands-before s is u.value found.op found.there).short)
 
   -- behind the value that is used
   pub here-behind : u.operand < inputs s + u.value
@@ -162,7 +134,7 @@ module _ (s : Values) (is : IsValues s) (front : List Use) (u : Use) (behind : L
   -- what it brings is what it brings in the end
   pub brings-same : brought (inputs s) (needs_by (inputs s) behind) u ≡ brings s (place_of_use u)
   brings-same =
-      let found : IsUse s u = use-is s u here-in in
+      let found : IsUse (shape_of_values s) s.values u = use-is (shape_of_values s) s.values u here-in in
       let op : slice_index_or s.values u.value (Const 0) ≡ found.op = get_or_from_slice_get s.values u.value found.op (Const 0) found.there in
       let whole : (front ++ u ∷ []) ++ behind ≡ uses s = append_assoc front (u ∷ []) behind ∙ sym split in
       let own : needs_by (inputs s) behind (inputs s + u.value) ≡ final_need s (inputs s + u.value) =
@@ -198,16 +170,16 @@ unfolding needs_by
 unused-none inputs v [] none = refl
 unused-none inputs v (u ∷ us) none = elim (cases_eq u.operand v) [
   | inl own ↦
-      absurd (omega (arith, none, ap (λ (ps : List Place). length ps) (noted-own v u us own), length-append (last_first v us) (place_of_use u ∷ [])))
+      absurd (omega (arith, none, ap (λ (ps : List OperandPlace). length ps) (noted-own v u us own), length-append (last_first v us) (place_of_use u ∷ [])))
   | inr other ↦
       needs-cons inputs u us v ∙ with_use-other inputs (needs_by inputs us) u v (λ e. other (sym e))
-      ∙ unused-none inputs v us (sym (ap (λ (ps : List Place). length ps) (noted-other v u us other)) ∙ none)
+      ∙ unused-none inputs v us (sym (ap (λ (ps : List OperandPlace). length ps) (noted-other v u us other)) ∙ none)
 ]
 
 -- so a row without bits stands for it
 pub stands-none : (s : Values) (v : ℕ) (row : List ℕ) → ((k : ℕ) → HasBit row k → ⊥) → Stands s v 0 row
 stands-none s v row empty front behind split none =
-    subst (λ (need : List Place). IsNeed s.values need row) (sym (unused-none (inputs s) v behind none)) (need-none s.values row empty)
+    subst (λ (need : List OperandPlace). IsNeed s.values need row) (sym (unused-none (inputs s) v behind none)) (need-none s.values row empty)
 
 -- a row of zeros has no bit
 pub zeros-empty : (n k : ℕ) → HasBit (replicate n 0) k → ⊥
@@ -219,7 +191,7 @@ zeros-empty n k set = omega (arith, set, ap (λ (w : ℕ). bit_at w (k % 64)) ze
       | inr past ↦ get_or_past (replicate n 0) (k / 64) 0 (omega (arith, length-replicate {A = ℕ} n 0, past))
     ]
 
-module _ (s : Values) (is : IsValues s) (v at : ℕ) (row : List ℕ) (p : Place) (below : at < length (last_first v (uses s)))
+module _ (s : Values) (is : IsValues s) (v at : ℕ) (row : List ℕ) (p : OperandPlace) (below : at < length (last_first v (uses s)))
     (p_is : p ≡ get_or (last_first v (uses s)) at (place_of 0 0)) (stands : Stands s v at row) where
   -- the use that is at the place
   next : IsTurn (inputs s) v at (uses s)
@@ -230,28 +202,28 @@ module _ (s : Values) (is : IsValues s) (v at : ℕ) (row : List ℕ) (p : Place
 
   -- it is by a value that is there
   pub next-there : p.value < length s.values
-  next-there = omega (arith, ap (λ (q : Place). q.value) next-same, here-there s is next.front next.here next.behind next.split)
+  next-there = omega (arith, ap (λ (q : OperandPlace). q.value) next-same, here-there s is next.front next.here next.behind next.split)
 
   -- at one of two places
   pub next-two : p.operand < 2
-  next-two = omega (arith, ap (λ (q : Place). q.operand) next-same, here-two s is next.front next.here next.behind next.split)
+  next-two = omega (arith, ap (λ (q : OperandPlace). q.operand) next-same, here-two s is next.front next.here next.behind next.split)
 
   -- behind the value that is used
   pub next-behind : v < inputs s + p.value
   next-behind =
-      omega (arith, ap (λ (q : Place). q.value) next-same, next.own, here-behind s is next.front next.here next.behind next.split)
+      omega (arith, ap (λ (q : OperandPlace). q.value) next-same, next.own, here-behind s is next.front next.here next.behind next.split)
 
   -- what clashes is what is to be marked
-  pub next-answer : (clashes : Bool) → ((need : List Place) → IsNeed s.values need row → clashes ≡ clash need (brings s p))
+  pub next-answer : (clashes : Bool) → ((need : List OperandPlace) → IsNeed s.values need row → clashes ≡ clash need (brings s p))
       → clashes ≡ all_marks s p.value p.operand
   next-answer clashes answers =
-      let need : List Place = needs_by (inputs s) next.behind v in
+      let need : List OperandPlace = needs_by (inputs s) next.behind v in
       let whole : uses s ≡ (next.front ++ next.here ∷ []) ++ next.behind = next.split ∙ sym (append_assoc next.front (next.here ∷ []) next.behind) in
-      answers need (stands (next.front ++ next.here ∷ []) next.behind whole next.before) ∙ ap (λ (q : Place). clash need (brings s q)) next-same
-      ∙ sym (mark-step s is next.front next.here next.behind next.split v next.own) ∙ ap (λ (q : Place). all_marks s q.value q.operand) (sym next-same)
+      answers need (stands (next.front ++ next.here ∷ []) next.behind whole next.before) ∙ ap (λ (q : OperandPlace). clash need (brings s q)) next-same
+      ∙ sym (mark-step s is next.front next.here next.behind next.split v next.own) ∙ ap (λ (q : OperandPlace). all_marks s q.value q.operand) (sym next-same)
 
   -- and the row that is left stands for one use more
-  pub next-stands : (new : List ℕ) → ((need : List Place) → IsNeed s.values need row → IsNeed s.values (added need (brings s p)) new)
+  pub next-stands : (new : List ℕ) → ((need : List OperandPlace) → IsNeed s.values need row → IsNeed s.values (added need (brings s p)) new)
       → Stands s v (at + 1) new
   next-stands new taken front behind split count =
       let t : IsTurn (inputs s) v at behind = turn (inputs s) v behind at (omega (arith, count)) in
@@ -259,10 +231,10 @@ module _ (s : Values) (is : IsValues s) (v at : ℕ) (row : List ℕ) (p : Place
       let apart : uses s ≡ ((front ++ t.front) ++ t.here ∷ []) ++ t.behind = whole ∙ sym (append_assoc (front ++ t.front) (t.here ∷ []) t.behind) in
       let more = noted-front v front behind in
       let same : p ≡ place_of_use t.here =
-      p_is ∙ ap (λ (us : List Use). get_or (last_first v us) at (place_of 0 0)) split ∙ ap (λ (ps : List Place). get_or ps at (place_of 0 0)) more.1
+      p_is ∙ ap (λ (us : List Use). get_or (last_first v us) at (place_of 0 0)) split ∙ ap (λ (ps : List OperandPlace). get_or ps at (place_of 0 0)) more.1
       ∙ get_or_append_left (last_first v behind) more.0 (place_of 0 0) at (omega (arith, count)) ∙ t.at in
-      let need : List Place = needs_by (inputs s) t.behind v in
+      let need : List OperandPlace = needs_by (inputs s) t.behind v in
       let is_next : needs_by (inputs s) behind v ≡ added need (brings s p) =
-      t.first (omega (arith, count)) ∙ need-step s is (front ++ t.front) t.here t.behind whole v t.own ∙ ap (λ (q : Place). added need (brings s q)) (sym same) in
-      subst (λ (ps : List Place). IsNeed s.values ps new) (sym is_next)
+      t.first (omega (arith, count)) ∙ need-step s is (front ++ t.front) t.here t.behind whole v t.own ∙ ap (λ (q : OperandPlace). added need (brings s q)) (sym same) in
+      subst (λ (ps : List OperandPlace). IsNeed s.values ps new) (sym is_next)
       (taken need (stands ((front ++ t.front) ++ t.here ∷ []) t.behind apart t.before))

@@ -11,14 +11,17 @@ use Rattle.mk_rules.specs.Tiles.{value_number}
 use Rattle.mk_rules.specs.Claimed.{Claimed}
 use Rattle.mk_rules.specs.Reaches.{Reaches, Undoubled, links}
 use Rattle.mk_rules.proofs.Doubled.{links-from}
-use Rattle.mk_place.specs.Uses.{Use, plain, uses}
+use Rattle.mk_rules.proofs.Probes.{Contains-front, Contains-none}
+use Rattle.mk_rules.proofs.Noting.{place_of}
+use Rattle.mk_rules.proofs.Using.{IsUse, use-is}
+use Rattle.mk_rules.specs.Uses.{Use}
+use Rattle.mk_place.specs.Uses.{shape_of_values, uses}
 use Rattle.mk_place.specs.Layout.{Marks, own_block, refresh_block, laid_out, blocks_from}
 use Rattle.mk_place.specs.Placed.{Brings, Placed}
 use Rattle.mk_place.specs.Needs.{needs_by, mark_by, marks_by}
 use Rattle.mk_place.specs.Marking.{all_marks, inputs}
-use Rattle.mk_place.proofs.Joining.{none-in, in-front, place_of}
 use Rattle.mk_place.proofs.Flow.{Ranked, Found, marks-at, marks-from, IsMarked, alone}
-use Rattle.mk_place.proofs.Using.{IsUse, use-is, uses-ranked}
+use Rattle.mk_place.proofs.Using.{uses-ranked}
 use Rattle.mk_place.proofs.Blocks.{refresh-once}
 use Rattle.mk_place.proofs.Differing.{refresh-or-own}
 use Rattle.mk_place.proofs.Hops.{moved, moved-value, moved-once, moved-no-refresh, stands-value, stands-refresh, links_of, use-two, hop-at, hop-from, Hop, refresh-single}
@@ -48,7 +51,7 @@ module _ (s : Values) (is : IsValues s) where
         let found : Found (inputs s) (uses s) (λ behind u. IsMarked (inputs s) i k behind u) = marks-from (inputs s) (uses s) i k on in (
           found.here,
           subst (λ (us : List Use). Contains us found.here) (sym found.split)
-              (Contains-append_right found.front (found.here ∷ found.behind) found.here (in-front found.here found.behind)),
+              (Contains-append_right found.front (found.here ∷ found.behind) found.here (Contains-front found.here found.behind)),
           sym found.holds.value,
           sym found.holds.place,
         );
@@ -67,17 +70,17 @@ module _ (s : Values) (is : IsValues s) where
     moved-alone v q first second =
         let all : inputs s + length s.values ≤ v + (inputs s + length s.values) = omega arith in
         let zeroth : Contains (needs_by (inputs s) (uses s) v) (place_of q 0) =
-        reaches-need s is marks (inputs s + length s.values) [] (uses s) v q 0 refl agrees all (λ x held same. none-in x held) first in
+        reaches-need s is marks (inputs s + length s.values) [] (uses s) v q 0 refl agrees all (λ x held same. Contains-none x held) first in
         let other : Contains (needs_by (inputs s) (uses s) v) (place_of q 1) =
-        reaches-need s is marks (inputs s + length s.values) [] (uses s) v q 1 refl agrees all (λ x held same. none-in x held) second in
+        reaches-need s is marks (inputs s + length s.values) [] (uses s) v q 1 refl agrees all (λ x held same. Contains-none x held) second in
         omega (arith, alone (inputs s) (uses s) v (place_of q 0) (place_of q 1) zeroth other refl)
 
     -- nor by uses at one place of one value
     same-alone : (u x : Use) (q : ℕ) → Contains (uses s) u → Contains (uses s) x → u.value ≡ x.value → u.place ≡ x.place
         → Brings (inputs s) (links_of s marks) marks u q 0 → Brings (inputs s) (links_of s marks) marks x q 1 → ⊥
     same-alone u x q there also value place first second =
-        let one : IsUse s u = use-is s u there in
-        let two : IsUse s x = use-is s x also in
+        let one : IsUse (shape_of_values s) s.values u = use-is (shape_of_values s) s.values u there in
+        let two : IsUse (shape_of_values s) s.values x = use-is (shape_of_values s) s.values x also in
         let op : Some one.op ≡ Some two.op = sym one.there ∙ ap (slice_get s.values) value ∙ two.there in
         let kinds : u.kind ≡ x.kind = one.same ∙ ap kind (same_Some one.op two.op op) ∙ sym two.same in
         elim first [
@@ -131,10 +134,10 @@ module _ (s : Values) (is : IsValues s) where
     -- so the certificate is undoubled
     pub laid-undoubled : Undoubled (inputs s) (links_of s marks)
     laid-undoubled v b first second =
-        let at : (x : Op) × (slice_get (blocks_from marks 0 s.values) b ≡ Some x) × ((kind x ≡ Strong) × (slice_get (map (value_number (plain s)) (shared_operands x)) 1 ≡ Some second.operand)) =
-        links-from (plain s) (blocks_from marks 0 s.values) b (λ link. (link.kind ≡ Strong) × (slice_get link.shared 1 ≡ Some second.operand)) second.strong in
+        let at : (x : Op) × (slice_get (blocks_from marks 0 s.values) b ≡ Some x) × ((kind x ≡ Strong) × (slice_get (map (value_number (shape_of_values s)) (shared_operands x)) 1 ≡ Some second.operand)) =
+        links-from (shape_of_values s) (blocks_from marks 0 s.values) b (λ link. (link.kind ≡ Strong) × (slice_get link.shared 1 ≡ Some second.operand)) second.strong in
         elim (refresh-or-own marks s.values b at.0 at.1) [
-          | inl fresh ↦ refresh-single (value_number (plain s)) at.0 second.operand fresh at.2.1
+          | inl fresh ↦ refresh-single (value_number (shape_of_values s)) at.0 second.operand fresh at.2.1
           | inr own ↦
               hops-alone v own.value
               (hop-from s marks is v own.value 0 (subst (λ (n : ℕ). Reaches (inputs s) (links_of s marks) v n 0) own.place first))
@@ -147,6 +150,6 @@ is-placed s is cert same = subst (Placed s) (sym same) (laid-placed s is)
 
 -- so it is for the certificate itself
 pub is-undoubled : (s : Values) → IsValues s → (cert : Claimed) → cert ≡ laid_out (all_marks s) s
-    → Undoubled (s.secrets + s.publics) (links (plain s) cert.blocks)
+    → Undoubled (s.secrets + s.publics) (links (shape_of_values s) cert.blocks)
 is-undoubled s is cert same =
-    subst (λ (c : Claimed). Undoubled (inputs s) (links (plain s) c.blocks)) (sym same) (laid-undoubled s is (all_marks s) (all-agree s))
+    subst (λ (c : Claimed). Undoubled (inputs s) (links (shape_of_values s) c.blocks)) (sym same) (laid-undoubled s is (all_marks s) (all-agree s))

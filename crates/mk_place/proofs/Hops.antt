@@ -15,14 +15,16 @@ use Rattle.mk_rules.specs.Reaches.{Link, IsPath, Reaches, links}
 use Rattle.mk_rules.proofs.Doubled.{link_of, links-at, links-from}
 use Rattle.mk_rules.proofs.Operators.{wired-operands}
 use Rattle.mk_rules.proofs.Views.{Contains-at}
-use Rattle.mk_place.specs.Uses.{Use, plain, uses}
-use Rattle.mk_place.specs.Layout.{Marks, own_block, refresh_block, renamed, refreshed, with_operands, blocks_from}
+use Rattle.mk_rules.proofs.Noting.{operands-short, use_of}
+use Rattle.mk_rules.proofs.Using.{IsUse, use-at, use-is}
+use Rattle.mk_rules.specs.Uses.{Use, shared_numbers}
+use Rattle.mk_place.specs.Uses.{shape_of_values, uses}
+use Rattle.mk_place.specs.Layout.{Marks, own_block, refresh_block, renamed, refreshed, blocks_from}
+use Rattle.mk_ssa.specs.Operators.{with_operands_by}
 use Rattle.mk_place.specs.Placed.{Brings}
-use Rattle.mk_place.specs.Marking.{shared_numbers, inputs}
+use Rattle.mk_place.specs.Marking.{inputs}
 use Rattle.mk_place.specs.Different.{IsRefresh}
-use Rattle.mk_place.proofs.Taking.{use_of}
-use Rattle.mk_place.proofs.Wiring.{wired-value, operands-short, each-at}
-use Rattle.mk_place.proofs.Using.{IsUse, use-is, use-at}
+use Rattle.mk_place.proofs.Wiring.{wired-value, each-at}
 use Rattle.mk_place.proofs.Blocks.{own-there, each-block, own-once, own-no-refresh}
 use Rattle.mk_place.proofs.Differing.{places, shared-laid, refresh-or-own}
 
@@ -40,7 +42,7 @@ image-from f (x ∷ xs) zero y there = (x, refl, same_Some (f x) y there)
 image-from f (x ∷ xs) (suc k) y there = image-from f xs k y there
 
 -- other operands leave the kind
-with-kind : (f : ℕ → Operand → Operand) (g : Operand → Operand) (op : Op) → kind (with_operands f g op) ≡ kind op
+with-kind : (f : ℕ → Operand → Operand) (g : Operand → Operand) (op : Op) → kind (with_operands_by f g op) ≡ kind op
 with-kind f g (Const value) = refl
 with-kind f g _ = refl
 
@@ -89,7 +91,7 @@ stands s marks u = if marks u.value u.place then inputs s + refresh_block marks 
 
 -- the blocks of the certificate, as a path sees them
 abbrev pub links_of : Values → Marks → List Link
-links_of s marks = links (plain s) (blocks_from marks 0 s.values)
+links_of s marks = links (shape_of_values s) (blocks_from marks 0 s.values)
 
 module _ (s : Values) (marks : Marks) where
   -- an input keeps its number
@@ -145,8 +147,8 @@ module _ (s : Values) (marks : Marks) where
   ]
 
   -- the number of an operand that is there
-  moved-is : (before : List Op) (w : Operand) → IsSharedThere (plain s) before w
-      → value_number (plain s) (renamed marks w) ≡ moved s marks (value_number (plain s) w)
+  moved-is : (before : List Op) (w : Operand) → IsSharedThere (shape_of_values s) before w
+      → value_number (shape_of_values s) (renamed marks w) ≡ moved s marks (value_number (shape_of_values s) w)
   moved-is before (Secret k) there = sym (moved-input k (omega (arith, there)))
   moved-is before (Public k) there = absurd there
   moved-is before (Block k) there = sym (moved-value k)
@@ -160,65 +162,65 @@ module _ (s : Values) (marks : Marks) where
   stands-value u off = cond-false (marks u.value u.place) (inputs s + refresh_block marks u.value u.place) (moved s marks u.operand) off
 
   -- the number of what stands for an operand that is there
-  stands-is : (before : List Op) (i k : ℕ) (kind : Kind) (w : Operand) → IsSharedThere (plain s) before w
-      → value_number (plain s) (refreshed marks i k w) ≡ stands s marks (use_of i kind k (value_number (plain s) w))
+  stands-is : (before : List Op) (i k : ℕ) (kind : Kind) (w : Operand) → IsSharedThere (shape_of_values s) before w
+      → value_number (shape_of_values s) (refreshed marks i k w) ≡ stands s marks (use_of i kind k (value_number (shape_of_values s) w))
   stands-is before i k kind w there = elim (cases_Bool (marks i k)) [
     | inl on ↦
-        ap (value_number (plain s)) (cond-true (marks i k) (Block (refresh_block marks i k)) (renamed marks w) on)
-        ∙ sym (stands-refresh (use_of i kind k (value_number (plain s) w)) on)
+        ap (value_number (shape_of_values s)) (cond-true (marks i k) (Block (refresh_block marks i k)) (renamed marks w) on)
+        ∙ sym (stands-refresh (use_of i kind k (value_number (shape_of_values s) w)) on)
     | inr off ↦
-        ap (value_number (plain s)) (cond-false (marks i k) (Block (refresh_block marks i k)) (renamed marks w) off)
-        ∙ moved-is before w there ∙ sym (stands-value (use_of i kind k (value_number (plain s) w)) off)
+        ap (value_number (shape_of_values s)) (cond-false (marks i k) (Block (refresh_block marks i k)) (renamed marks w) off)
+        ∙ moved-is before w there ∙ sym (stands-value (use_of i kind k (value_number (shape_of_values s) w)) off)
   ]
 
   module _ (is : IsValues s) where
     -- a use is at one of two places
     pub use-two : (u : Use) → Contains (uses s) u → u.place < 2
     use-two u held =
-        let found : IsUse s u = use-is s u held in
-        omega (arith, slice_get_within (shared_numbers s found.op) u.place u.operand found.operand, operands-short (plain s) found.op)
+        let found : IsUse (shape_of_values s) s.values u = use-is (shape_of_values s) s.values u held in
+        omega (arith, slice_get_within (shared_numbers (shape_of_values s) found.op) u.place u.operand found.operand, operands-short (shape_of_values s) found.op)
 
     -- the own block of a value
     abbrev pub own_of : ℕ → Op → Op
-    own_of i op = with_operands (refreshed marks i) (renamed marks) op
+    own_of i op = with_operands_by (refreshed marks i) (renamed marks) op
 
     -- a shared operand of a value is there
     operand-there : (i k : ℕ) (op : Op) (w : Operand) → slice_get s.values i ≡ Some op → slice_get (shared_operands op) k ≡ Some w
-        → IsSharedThere (plain s) (take i s.values) w
+        → IsSharedThere (shape_of_values s) (take i s.values) w
     operand-there i k op w there at =
-        each-at (IsSharedThere (plain s) (take i s.values)) (shared_operands op) k w
-        (wired-operands (plain s) (take i s.values) op (wired-value s is i op there)).0 at
+        each-at (IsSharedThere (shape_of_values s) (take i s.values)) (shared_operands op) k w
+        (wired-operands (shape_of_values s) (take i s.values) op (wired-value s is i op there)).0 at
 
     -- the number of the operand of an own block at a place
-    place-at : (i k v : ℕ) (op : Op) → slice_get s.values i ≡ Some op → slice_get (shared_numbers s op) k ≡ Some v
-        → slice_get (map (value_number (plain s)) (shared_operands (own_of i op))) k ≡ Some (stands s marks (use_of i (kind op) k v))
+    place-at : (i k v : ℕ) (op : Op) → slice_get s.values i ≡ Some op → slice_get (shared_numbers (shape_of_values s) op) k ≡ Some v
+        → slice_get (map (value_number (shape_of_values s)) (shared_operands (own_of i op))) k ≡ Some (stands s marks (use_of i (kind op) k v))
     place-at i k v op there at =
-        let found : (w : Operand) × (slice_get (shared_operands op) k ≡ Some w) × (value_number (plain s) w ≡ v) =
-        image-from (value_number (plain s)) (shared_operands op) k v at in
-        ap (λ (vs : List Operand). slice_get (map (value_number (plain s)) vs) k) (shared-laid (refreshed marks i) (renamed marks) op)
-        ∙ image-at (value_number (plain s)) (places (refreshed marks i) 0 (shared_operands op)) k (refreshed marks i (0 + k) found.0)
+        let found : (w : Operand) × (slice_get (shared_operands op) k ≡ Some w) × (value_number (shape_of_values s) w ≡ v) =
+        image-from (value_number (shape_of_values s)) (shared_operands op) k v at in
+        ap (λ (vs : List Operand). slice_get (map (value_number (shape_of_values s)) vs) k) (shared-laid (refreshed marks i) (renamed marks) op)
+        ∙ image-at (value_number (shape_of_values s)) (places (refreshed marks i) 0 (shared_operands op)) k (refreshed marks i (0 + k) found.0)
         (place-of (refreshed marks i) 0 (shared_operands op) k found.0 found.1)
         ∙ ap (λ (x : ℕ). Some x)
         (let e : 0 + k ≡ k = omega arith in
-        ap (λ (n : ℕ). value_number (plain s) (refreshed marks i n found.0)) e
+        ap (λ (n : ℕ). value_number (shape_of_values s) (refreshed marks i n found.0)) e
         ∙ stands-is (take i s.values) i k (kind op) found.0 (operand-there i k op found.0 there found.1)
         ∙ ap (λ (n : ℕ). stands s marks (use_of i (kind op) k n)) found.2)
 
     -- and nothing else is there
     place-from : (i k x : ℕ) (op : Op) → slice_get s.values i ≡ Some op
-        → slice_get (map (value_number (plain s)) (shared_operands (own_of i op))) k ≡ Some x
-        → (v : ℕ) × (slice_get (shared_numbers s op) k ≡ Some v) × (x ≡ stands s marks (use_of i (kind op) k v))
+        → slice_get (map (value_number (shape_of_values s)) (shared_operands (own_of i op))) k ≡ Some x
+        → (v : ℕ) × (slice_get (shared_numbers (shape_of_values s) op) k ≡ Some v) × (x ≡ stands s marks (use_of i (kind op) k v))
     place-from i k x op there at =
-        let outer : (y : Operand) × (slice_get (shared_operands (own_of i op)) k ≡ Some y) × (value_number (plain s) y ≡ x) =
-        image-from (value_number (plain s)) (shared_operands (own_of i op)) k x at in
+        let outer : (y : Operand) × (slice_get (shared_operands (own_of i op)) k ≡ Some y) × (value_number (shape_of_values s) y ≡ x) =
+        image-from (value_number (shape_of_values s)) (shared_operands (own_of i op)) k x at in
         let inner : (w : Operand) × (slice_get (shared_operands op) k ≡ Some w) × (refreshed marks i (0 + k) w ≡ outer.0) =
         place-in (refreshed marks i) 0 (shared_operands op) k outer.0
         (ap (λ (vs : List Operand). slice_get vs k) (sym (shared-laid (refreshed marks i) (renamed marks) op)) ∙ outer.1) in
-        let same : slice_get (shared_numbers s op) k ≡ Some (value_number (plain s) inner.0) =
-        image-at (value_number (plain s)) (shared_operands op) k inner.0 inner.1 in
-        let number : Some x ≡ Some (stands s marks (use_of i (kind op) k (value_number (plain s) inner.0))) =
-        sym at ∙ place-at i k (value_number (plain s) inner.0) op there same in
-        (value_number (plain s) inner.0, same, same_Some x (stands s marks (use_of i (kind op) k (value_number (plain s) inner.0))) number)
+        let same : slice_get (shared_numbers (shape_of_values s) op) k ≡ Some (value_number (shape_of_values s) inner.0) =
+        image-at (value_number (shape_of_values s)) (shared_operands op) k inner.0 inner.1 in
+        let number : Some x ≡ Some (stands s marks (use_of i (kind op) k (value_number (shape_of_values s) inner.0))) =
+        sym at ∙ place-at i k (value_number (shape_of_values s) inner.0) op there same in
+        (value_number (shape_of_values s) inner.0, same, same_Some x (stands s marks (use_of i (kind op) k (value_number (shape_of_values s) inner.0))) number)
 
     -- a way from a value: it goes by a use that brings the place
     pub record Hop (v q k : ℕ) : Type 0 where
@@ -244,15 +246,15 @@ module _ (s : Values) (marks : Marks) where
     hop-last : (q k w : ℕ) → IsSomeAnd (slice_get (links_of s marks) (own_block marks q)) (λ link. (link.kind ≡ Strong) × (slice_get link.shared k ≡ Some w))
         → Hop w q k
     hop-last q k w strong =
-        let at : (x : Op) × (slice_get (blocks_from marks 0 s.values) (own_block marks q) ≡ Some x) × ((kind x ≡ Strong) × (slice_get (map (value_number (plain s)) (shared_operands x)) k ≡ Some w)) =
-        links-from (plain s) (blocks_from marks 0 s.values) (own_block marks q) (λ link. (link.kind ≡ Strong) × (slice_get link.shared k ≡ Some w)) strong in
+        let at : (x : Op) × (slice_get (blocks_from marks 0 s.values) (own_block marks q) ≡ Some x) × ((kind x ≡ Strong) × (slice_get (map (value_number (shape_of_values s)) (shared_operands x)) k ≡ Some w)) =
+        links-from (shape_of_values s) (blocks_from marks 0 s.values) (own_block marks q) (λ link. (link.kind ≡ Strong) × (slice_get link.shared k ≡ Some w)) strong in
         let own : (op : Op) × (slice_get s.values q ≡ Some op) × (own_of q op ≡ at.0) = own-at q at.0 at.1 in
-        let place : (v : ℕ) × (slice_get (shared_numbers s own.0) k ≡ Some v) × (w ≡ stands s marks (use_of q (kind own.0) k v)) =
-        place-from q k w own.0 own.1 (subst (λ (x : Op). slice_get (map (value_number (plain s)) (shared_operands x)) k ≡ Some w) (sym own.2) at.2.1) in
+        let place : (v : ℕ) × (slice_get (shared_numbers (shape_of_values s) own.0) k ≡ Some v) × (w ≡ stands s marks (use_of q (kind own.0) k v)) =
+        place-from q k w own.0 own.1 (subst (λ (x : Op). slice_get (map (value_number (shape_of_values s)) (shared_operands x)) k ≡ Some w) (sym own.2) at.2.1) in
         let is_strong : kind own.0 ≡ Strong = sym (with-kind (refreshed marks q) (renamed marks) own.0) ∙ ap kind own.2 ∙ at.2.0 in
         record {
           hop = use_of q (kind own.0) k place.0;
-          there = use-at s q k place.0 own.0 own.1 place.1;
+          there = use-at (shape_of_values s) s.values q k place.0 own.0 own.1 place.1;
           at = place.2;
           brings = inl (is_strong, refl, refl);
         }
@@ -264,23 +266,23 @@ module _ (s : Values) (marks : Marks) where
         → IsSomeAnd (slice_get (links_of s marks) (own_block marks q)) (λ link. (link.kind ≡ Strong) × (slice_get link.shared k ≡ Some w))
         → Hop v q k
     hop-first v q k b w path linear leads strong =
-        let at : (x : Op) × (slice_get (blocks_from marks 0 s.values) b ≡ Some x) × ((kind x ≡ Linear) × Contains (map (value_number (plain s)) (shared_operands x)) v) =
-        links-from (plain s) (blocks_from marks 0 s.values) b (λ link. (link.kind ≡ Linear) × Contains link.shared v) linear in
+        let at : (x : Op) × (slice_get (blocks_from marks 0 s.values) b ≡ Some x) × ((kind x ≡ Linear) × Contains (map (value_number (shape_of_values s)) (shared_operands x)) v) =
+        links-from (shape_of_values s) (blocks_from marks 0 s.values) b (λ link. (link.kind ≡ Linear) × Contains link.shared v) linear in
         elim (refresh-or-own marks s.values b at.0 at.1) [
           | inl fresh ↦ let e : Strong ≡ Linear = sym (refresh-strong at.0 fresh) ∙ at.2.0 in absurd (cc)
           | inr own ↦
               let i : ℕ = own.value in
-              let held : Contains (map (value_number (plain s)) (shared_operands (own_of i own.own))) v =
-              subst (λ (x : Op). Contains (map (value_number (plain s)) (shared_operands x)) v) (sym own.is) at.2.1 in
-              let there : slice_get (map (value_number (plain s)) (shared_operands (own_of i own.own))) held.0 ≡ Some v =
-              slice_get-get_or (map (value_number (plain s)) (shared_operands (own_of i own.own))) held.0 v held.1 ∙ ap (λ (x : ℕ). Some x) held.2 in
-              let place : (y : ℕ) × (slice_get (shared_numbers s own.own) held.0 ≡ Some y) × (v ≡ stands s marks (use_of i (kind own.own) held.0 y)) =
+              let held : Contains (map (value_number (shape_of_values s)) (shared_operands (own_of i own.own))) v =
+              subst (λ (x : Op). Contains (map (value_number (shape_of_values s)) (shared_operands x)) v) (sym own.is) at.2.1 in
+              let there : slice_get (map (value_number (shape_of_values s)) (shared_operands (own_of i own.own))) held.0 ≡ Some v =
+              slice_get-get_or (map (value_number (shape_of_values s)) (shared_operands (own_of i own.own))) held.0 v held.1 ∙ ap (λ (x : ℕ). Some x) held.2 in
+              let place : (y : ℕ) × (slice_get (shared_numbers (shape_of_values s) own.own) held.0 ≡ Some y) × (v ≡ stands s marks (use_of i (kind own.own) held.0 y)) =
               place-from i held.0 v own.own own.there there in
               let is_linear : kind own.own ≡ Linear =
               sym (with-kind (refreshed marks i) (renamed marks) own.own) ∙ ap kind own.is ∙ at.2.0 in
               record {
                 hop = use_of i (kind own.own) held.0 place.0;
-                there = use-at s i held.0 place.0 own.own own.there place.1;
+                there = use-at (shape_of_values s) s.values i held.0 place.0 own.own own.there place.1;
                 at = place.2;
                 brings =
                     inr (
@@ -312,12 +314,12 @@ module _ (s : Values) (marks : Marks) where
         → Reaches (inputs s) (links_of s marks) (stands s marks u) (own_block marks q) k
     unfolding IsPath
     hop-at u q k held brings =
-        let found : IsUse s u = use-is s u held in
+        let found : IsUse (shape_of_values s) s.values u = use-is (shape_of_values s) s.values u held in
         let own : Op = own_of u.value found.op in
-        let link : slice_get (links_of s marks) (own_block marks u.value) ≡ Some (link_of (plain s) own) =
-        links-at (plain s) (blocks_from marks 0 s.values) (own_block marks u.value) own (own-there marks s.values u.value found.op found.there) in
+        let link : slice_get (links_of s marks) (own_block marks u.value) ≡ Some (link_of (shape_of_values s) own) =
+        links-at (shape_of_values s) (blocks_from marks 0 s.values) (own_block marks u.value) own (own-there marks s.values u.value found.op found.there) in
         let same : use_of u.value (kind found.op) u.place u.operand ≡ u = ap (λ (x : Kind). use_of u.value x u.place u.operand) (sym found.same) in
-        let at : slice_get (map (value_number (plain s)) (shared_operands own)) u.place ≡ Some (stands s marks u) =
+        let at : slice_get (map (value_number (shape_of_values s)) (shared_operands own)) u.place ≡ Some (stands s marks u) =
         place-at u.value u.place u.operand found.op found.there found.operand ∙ ap (λ (x : Use). Some (stands s marks x)) same in
         let is : kind own ≡ u.kind = with-kind (refreshed marks u.value) (renamed marks) found.op ∙ sym found.same in
         elim brings [
@@ -329,7 +331,7 @@ module _ (s : Values) (marks : Marks) where
                 strong =
                     subst (λ (o : Option Link). IsSomeAnd o (λ x. (x.kind ≡ Strong) × (slice_get x.shared k ≡ Some (stands s marks u))))
                     (sym (ap (λ (n : ℕ). slice_get (links_of s marks) (own_block marks n)) strong.1 ∙ link))
-                    (is ∙ strong.0, ap (slice_get (map (value_number (plain s)) (shared_operands own))) strong.2 ∙ at);
+                    (is ∙ strong.0, ap (slice_get (map (value_number (shape_of_values s)) (shared_operands own))) strong.2 ∙ at);
               }
           | inr linear ↦
               record {
@@ -337,7 +339,7 @@ module _ (s : Values) (marks : Marks) where
                 operand = linear.1.operand;
                 leads = (
                   subst (λ (o : Option Link). IsSomeAnd o (λ x. (x.kind ≡ Linear) × Contains x.shared (stands s marks u))) (sym link)
-                      (is ∙ linear.0, Contains-at (map (value_number (plain s)) (shared_operands own)) u.place (stands s marks u) at),
+                      (is ∙ linear.0, Contains-at (map (value_number (shape_of_values s)) (shared_operands own)) u.place (stands s marks u) at),
                   linear.1.leads,
                 );
                 strong = linear.1.strong;

@@ -1,38 +1,12 @@
 -- Places that are joined: those of both lists, and nothing else. And what a clash is.
-use Rattle.std.proofs.Common.{◌≡◌, ◌≢◌, ◌⊎◌, ℕ, zero, suc, ◌<◌, Bool, true, false, not, ◌&&◌, ◌||◌, List, [], ◌∷◌, ◌++◌, nat_eq, slice_index_or, refl, sym, ◌∙◌, ap, subst, inl, inr, arith}
+use Rattle.std.proofs.Common.{◌≡◌, ◌≢◌, ◌⊎◌, Bool, true, false, not, ◌&&◌, ◌||◌, List, [], ◌∷◌, ◌++◌, nat_eq, refl, sym, ◌∙◌, ap, subst, inl, inr}
 use Rattle.std.specs.List.{Contains, list_any}
 use Rattle.std.proofs.lemmas.Bool.{cases_Bool, cond-true, cond-false, and_from, eqb-true, eq-eqb, ne_eqb}
-use Rattle.std.proofs.lemmas.List.Elements.{Contains-append_left, Contains-append_right, Contains-append_cases, Contains-push, Contains-push_cases}
-use Rattle.mk_place.specs.declared.need.Place.{Place}
+use Rattle.std.proofs.lemmas.List.Elements.{Contains-append_left, Contains-push, Contains-push_cases}
+use Rattle.mk_rules.specs.declared.uses.OperandPlace.{OperandPlace}
+use Rattle.mk_rules.proofs.Probes.{Contains-more, Contains-cases, Contains-front, Contains-none}
+use Rattle.mk_rules.proofs.Noting.{place_of}
 use Rattle.mk_place.specs.Needs.{is_same, is_other, clash, joined, with_place, added}
-
--- no list without elements has one
-pub none-in : {X : Type 0} (x : X) → Contains [] x → ⊥
-none-in x held = omega (arith, held.1)
-
--- the one element of a list
-only-at : {X : Type 0} (y x : X) (k : ℕ) → k < 1 → slice_index_or (y ∷ []) k x ≡ x → y ≡ x
-only-at y x zero below is = is
-only-at y x (suc k) below is = absurd (omega (arith, below))
-
--- a list of one element has no other
-pub only-in : {X : Type 0} (y x : X) → Contains (y ∷ []) x → y ≡ x
-only-in y x held = only-at y x held.0 held.1 held.2
-
--- an element is the first or one behind it
-pub in-cases : {X : Type 0} (y : X) (xs : List X) (x : X) → Contains (y ∷ xs) x → (y ≡ x) ⊎ Contains xs x
-in-cases y xs x held = elim (Contains-append_cases (y ∷ []) xs x held) [
-  | inl own ↦ inl (only-in y x own)
-  | inr rest ↦ inr rest
-]
-
--- the first element
-pub in-front : {X : Type 0} (x : X) (xs : List X) → Contains (x ∷ xs) x
-in-front x xs = (0, omega arith, refl)
-
--- one behind it
-pub in-behind : {X : Type 0} (y : X) (xs : List X) (x : X) → Contains xs x → Contains (y ∷ xs) x
-in-behind y xs x held = Contains-append_right (y ∷ []) xs x held
 
 -- one of two holds
 or-right : (a b : Bool) → b ≡ true → (a || b) ≡ true
@@ -51,8 +25,8 @@ not-true false is on = absurd (cc)
 
 -- an element that passes a test
 any-at : {X : Type 0} (p : X → Bool) (xs : List X) (x : X) → Contains xs x → p x ≡ true → list_any p xs ≡ true
-any-at p [] x held is = absurd (none-in x held)
-any-at p (y ∷ xs) x held is = elim (in-cases y xs x held) [
+any-at p [] x held is = absurd (Contains-none x held)
+any-at p (y ∷ xs) x held is = elim (Contains-cases y xs x held) [
   | inl own ↦ ap (λ b. b || list_any p xs) (ap p own ∙ is)
   | inr rest ↦ or-right (p y) (list_any p xs) (any-at p xs x rest is)
 ]
@@ -61,89 +35,85 @@ any-at p (y ∷ xs) x held is = elim (in-cases y xs x held) [
 any-from : {X : Type 0} (p : X → Bool) (xs : List X) → list_any p xs ≡ true → (x : X) × Contains xs x × (p x ≡ true)
 any-from p [] is = absurd (cc)
 any-from p (y ∷ xs) is = elim (cases_Bool (p y)) [
-  | inl own ↦ (y, in-front y xs, own)
+  | inl own ↦ (y, Contains-front y xs, own)
   | inr other ↦
       let rest : (x : _) × Contains xs x × (p x ≡ true) = any-from p xs (sym (ap (λ b. b || list_any p xs) other) ∙ is) in
-      (rest.0, in-behind y xs rest.0 rest.1, rest.2)
+      (rest.0, Contains-more y xs rest.0 rest.1, rest.2)
 ]
 
--- a place by its parts
-abbrev pub place_of : ℕ → ℕ → Place
-place_of value operand = record { value = value; operand = operand }
-
 -- places with equal parts are equal
-pub same-place : (q p : Place) → q.value ≡ p.value → q.operand ≡ p.operand → q ≡ p
+pub same-place : (q p : OperandPlace) → q.value ≡ p.value → q.operand ≡ p.operand → q ≡ p
 same-place q p value operand = ap (λ v. place_of v q.operand) value ∙ ap (λ k. place_of p.value k) operand
 
 -- what is joined first stays
-with-kept : (need : List Place) (q p : Place) → Contains need p → Contains (with_place need q) p
+with-kept : (need : List OperandPlace) (q p : OperandPlace) → Contains need p → Contains (with_place need q) p
 with-kept need q p held = elim (cases_Bool (list_any (is_same q) need)) [
-  | inl has ↦ subst (λ (xs : List Place). Contains xs p) (sym (cond-true (list_any (is_same q) need) need (need ++ q ∷ []) has)) held
+  | inl has ↦ subst (λ (xs : List OperandPlace). Contains xs p) (sym (cond-true (list_any (is_same q) need) need (need ++ q ∷ []) has)) held
   | inr new ↦
-      subst (λ (xs : List Place). Contains xs p) (sym (cond-false (list_any (is_same q) need) need (need ++ q ∷ []) new))
+      subst (λ (xs : List OperandPlace). Contains xs p) (sym (cond-false (list_any (is_same q) need) need (need ++ q ∷ []) new))
       (Contains-append_left need (q ∷ []) p held)
 ]
 
 -- the place itself is there
-with-own : (need : List Place) (q : Place) → Contains (with_place need q) q
+with-own : (need : List OperandPlace) (q : OperandPlace) → Contains (with_place need q) q
 with-own need q = elim (cases_Bool (list_any (is_same q) need)) [
   | inl has ↦
-      let found : (x : Place) × Contains need x × (is_same q x ≡ true) = any-from (is_same q) need has in
+      let found : (x : OperandPlace) × Contains need x × (is_same q x ≡ true) = any-from (is_same q) need has in
       let parts : (nat_eq found.0.value q.value ≡ true) × (nat_eq found.0.operand q.operand ≡ true) =
       and-parts (nat_eq found.0.value q.value) (nat_eq found.0.operand q.operand) found.2 in
       let same : found.0 ≡ q = same-place found.0 q (eqb-true found.0.value q.value parts.0) (eqb-true found.0.operand q.operand parts.1) in
-      subst (λ (xs : List Place). Contains xs q) (sym (cond-true (list_any (is_same q) need) need (need ++ q ∷ []) has))
+      subst (λ (xs : List OperandPlace). Contains xs q) (sym (cond-true (list_any (is_same q) need) need (need ++ q ∷ []) has))
       (subst (Contains need) same found.1)
   | inr new ↦
-      subst (λ (xs : List Place). Contains xs q) (sym (cond-false (list_any (is_same q) need) need (need ++ q ∷ []) new)) (Contains-push need q)
+      subst (λ (xs : List OperandPlace). Contains xs q) (sym (cond-false (list_any (is_same q) need) need (need ++ q ∷ []) new)) (Contains-push need q)
 ]
 
 -- and nothing else is new
-with-from : (need : List Place) (q p : Place) → Contains (with_place need q) p → Contains need p ⊎ (q ≡ p)
+with-from : (need : List OperandPlace) (q p : OperandPlace) → Contains (with_place need q) p → Contains need p ⊎ (q ≡ p)
 with-from need q p held = elim (cases_Bool (list_any (is_same q) need)) [
-  | inl has ↦ inl (subst (λ (xs : List Place). Contains xs p) (cond-true (list_any (is_same q) need) need (need ++ q ∷ []) has) held)
+  | inl has ↦ inl (subst (λ (xs : List OperandPlace). Contains xs p) (cond-true (list_any (is_same q) need) need (need ++ q ∷ []) has) held)
   | inr new ↦
-      Contains-push_cases need q p (subst (λ (xs : List Place). Contains xs p) (cond-false (list_any (is_same q) need) need (need ++ q ∷ []) new) held)
+      Contains-push_cases need q p (subst (λ (xs : List OperandPlace). Contains xs p) (cond-false (list_any (is_same q) need) need (need ++ q ∷ []) new) held)
 ]
 
 -- the places of the first list are joined
-pub joined-left : (need ps : List Place) (p : Place) → Contains need p → Contains (joined need ps) p
+pub joined-left : (need ps : List OperandPlace) (p : OperandPlace) → Contains need p → Contains (joined need ps) p
 unfolding joined
 joined-left need [] p held = held
 joined-left need (q ∷ ps) p held = joined-left (with_place need q) ps p (with-kept need q p held)
 
 -- and those of the second
-pub joined-right : (need ps : List Place) (p : Place) → Contains ps p → Contains (joined need ps) p
+pub joined-right : (need ps : List OperandPlace) (p : OperandPlace) → Contains ps p → Contains (joined need ps) p
 unfolding joined
-joined-right need [] p held = absurd (none-in p held)
-joined-right need (q ∷ ps) p held = elim (in-cases q ps p held) [
+joined-right need [] p held = absurd (Contains-none p held)
+joined-right need (q ∷ ps) p held = elim (Contains-cases q ps p held) [
   | inl own ↦ joined-left (with_place need q) ps p (subst (Contains (with_place need q)) own (with-own need q))
   | inr rest ↦ joined-right (with_place need q) ps p rest
 ]
 
 -- and no other
-pub joined-from : (need ps : List Place) (p : Place) → Contains (joined need ps) p → Contains need p ⊎ Contains ps p
+pub joined-from : (need ps : List OperandPlace) (p : OperandPlace) → Contains (joined need ps) p → Contains need p ⊎ Contains ps p
 unfolding joined
 joined-from need [] p held = inl held
 joined-from need (q ∷ ps) p held = elim (joined-from (with_place need q) ps p held) [
   | inl there ↦ elim (with-from need q p there) [
     | inl first ↦ inl first
-    | inr own ↦ inr (subst (Contains (q ∷ ps)) own (in-front q ps))
+    | inr own ↦ inr (subst (Contains (q ∷ ps)) own (Contains-front q ps))
   ]
-  | inr rest ↦ inr (in-behind q ps p rest)
+  | inr rest ↦ inr (Contains-more q ps p rest)
 ]
 
 -- two places of one product
-pub record Clashing (need brought : List Place) : Type 0 where
-  pub first : Place
-  pub second : Place
+pub record Clashing (need brought : List OperandPlace) : Type 0 where
+  pub first : OperandPlace
+  pub second : OperandPlace
   pub held : Contains need first
   pub there : Contains brought second
   pub same : first.value ≡ second.value
   pub differ : first.operand ≢ second.operand
 
 -- where there are such, lists clash
-pub clash-at : (need brought : List Place) → Clashing need brought → clash need brought ≡ true
+pub clash-at : (need brought : List OperandPlace) → Clashing need brought → clash need brought ≡ true
 clash-at need brought c =
     any-at (λ p. list_any (is_other p) need) brought c.second c.there
     (any-at (is_other c.second) need c.first c.held
@@ -151,10 +121,10 @@ clash-at need brought c =
     (ap not (ne_eqb c.first.operand c.second.operand c.differ))))
 
 -- where lists clash, there are such
-pub clash-from : (need brought : List Place) → clash need brought ≡ true → Clashing need brought
+pub clash-from : (need brought : List OperandPlace) → clash need brought ≡ true → Clashing need brought
 clash-from need brought is =
-    let outer : (p : Place) × Contains brought p × (list_any (is_other p) need ≡ true) = any-from (λ p. list_any (is_other p) need) brought is in
-    let inner : (q : Place) × Contains need q × (is_other outer.0 q ≡ true) = any-from (is_other outer.0) need outer.2 in
+    let outer : (p : OperandPlace) × Contains brought p × (list_any (is_other p) need ≡ true) = any-from (λ p. list_any (is_other p) need) brought is in
+    let inner : (q : OperandPlace) × Contains need q × (is_other outer.0 q ≡ true) = any-from (is_other outer.0) need outer.2 in
     let parts : (nat_eq inner.0.value outer.0.value ≡ true) × (not (nat_eq inner.0.operand outer.0.operand) ≡ true) =
     and-parts (nat_eq inner.0.value outer.0.value) (not (nat_eq inner.0.operand outer.0.operand)) inner.2 in
     record {
@@ -167,25 +137,25 @@ clash-from need brought is =
     }
 
 -- what is added first stays
-pub added-left : (need brought : List Place) (p : Place) → Contains need p → Contains (added need brought) p
+pub added-left : (need brought : List OperandPlace) (p : OperandPlace) → Contains need p → Contains (added need brought) p
 added-left need brought p held = elim (cases_Bool (clash need brought)) [
-  | inl clashes ↦ subst (λ (xs : List Place). Contains xs p) (sym (cond-true (clash need brought) need (joined need brought) clashes)) held
+  | inl clashes ↦ subst (λ (xs : List OperandPlace). Contains xs p) (sym (cond-true (clash need brought) need (joined need brought) clashes)) held
   | inr apart ↦
-      subst (λ (xs : List Place). Contains xs p) (sym (cond-false (clash need brought) need (joined need brought) apart)) (joined-left need brought p held)
+      subst (λ (xs : List OperandPlace). Contains xs p) (sym (cond-false (clash need brought) need (joined need brought) apart)) (joined-left need brought p held)
 ]
 
 -- what is brought without a clash is added
-pub added-right : (need brought : List Place) (p : Place) → clash need brought ≡ false → Contains brought p → Contains (added need brought) p
+pub added-right : (need brought : List OperandPlace) (p : OperandPlace) → clash need brought ≡ false → Contains brought p → Contains (added need brought) p
 added-right need brought p apart there =
-    subst (λ (xs : List Place). Contains xs p) (sym (cond-false (clash need brought) need (joined need brought) apart)) (joined-right need brought p there)
+    subst (λ (xs : List OperandPlace). Contains xs p) (sym (cond-false (clash need brought) need (joined need brought) apart)) (joined-right need brought p there)
 
 -- and nothing else
-pub added-from : (need brought : List Place) (p : Place) → Contains (added need brought) p
+pub added-from : (need brought : List OperandPlace) (p : OperandPlace) → Contains (added need brought) p
     → Contains need p ⊎ ((clash need brought ≡ false) × Contains brought p)
 added-from need brought p held = elim (cases_Bool (clash need brought)) [
-  | inl clashes ↦ inl (subst (λ (xs : List Place). Contains xs p) (cond-true (clash need brought) need (joined need brought) clashes) held)
+  | inl clashes ↦ inl (subst (λ (xs : List OperandPlace). Contains xs p) (cond-true (clash need brought) need (joined need brought) clashes) held)
   | inr apart ↦ elim (joined-from need brought p
-      (subst (λ (xs : List Place). Contains xs p) (cond-false (clash need brought) need (joined need brought) apart) held)) [
+      (subst (λ (xs : List OperandPlace). Contains xs p) (cond-false (clash need brought) need (joined need brought) apart) held)) [
         | inl first ↦ inl first
         | inr there ↦ inr (apart, there)
       ]

@@ -1,11 +1,9 @@
 mod Joining
-mod Products
 mod Standing
 mod Bringing
 mod Flow
 mod Taking
 pub mod Wiring
-mod Noting
 mod Worked
 mod Naming
 mod Placing

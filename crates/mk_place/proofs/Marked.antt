@@ -7,22 +7,25 @@ use Rattle.std.proofs.Math.Seq.{take-append_seam}
 use Rattle.std.proofs.lemmas.List.{length-append, length-replicate, get_or-replicate, get_or_append_left, get_or_past, get_or_push}
 use Rattle.std.proofs.lemmas.Option.{slice_get-get_or, slice_get_within}
 use Rattle.mk_ssa.specs.Values.{Values, IsValues}
-use Rattle.mk_place.specs.declared.need.Place.{Place}
+use Rattle.mk_rules.specs.declared.uses.OperandPlace.{OperandPlace}
+use Rattle.mk_rules.proofs.Probes.{Contains-front}
+use Rattle.mk_rules.proofs.Noting.{place_of}
+use Rattle.mk_rules.proofs.Using.{IsUse, noted-from, noted-in, use-is}
+use Rattle.mk_rules.specs.Uses.{Use, last_first}
 use Rattle.mk_place.specs.declared.marking.Fresh.{Fresh}
-use Rattle.mk_place.specs.Uses.{Use, uses}
+use Rattle.mk_place.specs.Uses.{uses, shape_of_values}
 use Rattle.mk_place.specs.Layout.{Marks}
-use Rattle.mk_place.specs.Marking.{AreMarks, HasRow, HasRows, IsDue, IsMarked, IsNeed, all_marks, final_need, inputs, last_first, mark_in, unmarked}
-use Rattle.mk_place.proofs.Joining.{in-front, place_of, same-place}
+use Rattle.mk_place.specs.Marking.{AreMarks, HasRow, HasRows, IsDue, IsMarked, IsNeed, all_marks, final_need, inputs, mark_in, unmarked}
+use Rattle.mk_place.proofs.Joining.{same-place}
 use Rattle.mk_place.proofs.Flow.{Found, marks-from, IsMarked as IsMarkedUse}
 use Rattle.mk_place.proofs.Standing.{same-answer}
-use Rattle.mk_place.proofs.Using.{IsUse, use-is, use-before}
-use Rattle.mk_place.proofs.Gathering.{noted-from, noted-in}
+use Rattle.mk_place.proofs.Using.{use-before}
 
 -- the use at one of these places is to be marked
-abbrev pub IsAmong : Marks → List Place → ℕ → ℕ → Type 0
+abbrev pub IsAmong : Marks → List OperandPlace → ℕ → ℕ → Type 0
 IsAmong marks ps i k = Contains ps (place_of i k) × (marks i k ≡ true)
 
-module _ (marks : Marks) (A : ℕ → ℕ → Type 0) (old : List Fresh) (ps : List Place) (p : Place)
+module _ (marks : Marks) (A : ℕ → ℕ → Type 0) (old : List Fresh) (ps : List OperandPlace) (p : OperandPlace)
     (so_far : (i k : ℕ) → IsMarked old i k ↔ (A i k ⊎ IsAmong marks ps i k)) where
   -- a use that isn't to be marked
   pub among-still : marks p.value p.operand ≡ false → (i k : ℕ) → IsMarked old i k ↔ (A i k ⊎ IsAmong marks (ps ++ p ∷ []) i k)
@@ -35,7 +38,7 @@ module _ (marks : Marks) (A : ℕ → ℕ → Type 0) (old : List Fresh) (ps : L
       | inl before ↦ inl before
       | inr among ↦ elim (Contains-push_cases ps p (place_of i k) among.0) [
         | inl inner ↦ inr (inner, among.1)
-        | inr here ↦ absurd (false≢true (sym off ∙ ap (λ (q : Place). marks q.value q.operand) here ∙ among.1))
+        | inr here ↦ absurd (false≢true (sym off ∙ ap (λ (q : OperandPlace). marks q.value q.operand) here ∙ among.1))
       ]
     ]),
   )
@@ -52,13 +55,13 @@ module _ (marks : Marks) (A : ℕ → ℕ → Type 0) (old : List Fresh) (ps : L
       ]
       | inr here ↦
           let same : p ≡ place_of i k = same-place p (place_of i k) (sym here.0) (sym here.1) in
-          inr (subst (Contains (ps ++ p ∷ [])) same (Contains-push ps p), ap (λ (q : Place). marks q.value q.operand) (sym same) ∙ on)
+          inr (subst (Contains (ps ++ p ∷ [])) same (Contains-push ps p), ap (λ (q : OperandPlace). marks q.value q.operand) (sym same) ∙ on)
     ],
     λ is. (marked i k).1 (elim is [
       | inl before ↦ inl ((so_far i k).1 (inl before))
       | inr among ↦ elim (Contains-push_cases ps p (place_of i k) among.0) [
         | inl inner ↦ inl ((so_far i k).1 (inr (inner, among.1)))
-        | inr here ↦ inr (ap (λ (q : Place). q.value) (sym here), ap (λ (q : Place). q.operand) (sym here))
+        | inr here ↦ inr (ap (λ (q : OperandPlace). q.value) (sym here), ap (λ (q : OperandPlace). q.operand) (sym here))
       ]
     ]),
   )
@@ -67,7 +70,7 @@ module _ (marks : Marks) (A : ℕ → ℕ → Type 0) (old : List Fresh) (ps : L
 pub among-due : (s : Values) (v i k : ℕ) → IsAmong (all_marks s) (last_first v (uses s)) i k → IsDue s v i k
 among-due s v i k (held, on) =
     let found = noted-from v (uses s) (place_of i k) held in
-    (found.0, found.1, found.2, ap (λ (q : Place). q.value) found.3, ap (λ (q : Place). q.operand) found.3, on)
+    (found.0, found.1, found.2, ap (λ (q : OperandPlace). q.value) found.3, ap (λ (q : OperandPlace). q.operand) found.3, on)
 
 -- and the other way round
 pub due-among : (s : Values) (v i k : ℕ) → IsDue s v i k → IsAmong (all_marks s) (last_first v (uses s)) i k
@@ -117,7 +120,7 @@ settled-all s P fresh all count so_far = record {
         (so_far i k).1 (
           found.here,
           subst (λ (us : List Use). Contains us found.here) (sym found.split)
-              (Contains-append_right found.front (found.here ∷ found.behind) found.here (in-front found.here found.behind)),
+              (Contains-append_right found.front (found.here ∷ found.behind) found.here (Contains-front found.here found.behind)),
           all found.here.operand,
           sym found.holds.value,
           sym found.holds.place,
@@ -142,7 +145,7 @@ none-marked n i k on = false≢true (sym (off k) ∙ ap (λ (x : Fresh). mark_in
 -- what is used is one of the values
 pub used-within : (s : Values) → IsValues s → (u : Use) → Contains (uses s) u → u.operand < inputs s + length s.values
 used-within s is u held =
-    let found : IsUse s u = use-is s u held in
+    let found : IsUse (shape_of_values s) s.values u = use-is (shape_of_values s) s.values u held in
     omega (arith, use-before s is u held, slice_get_within s.values u.value found.op found.there)
 
 -- one row more, for the value before those that have one

@@ -8,7 +8,8 @@ use Rattle.mk_ssa.specs.declared.Op.TheVariants.{Const, PubAdd, PubMul, PubSq, P
 use Rattle.mk_ssa.specs.declared.Operand.{Operand}
 use Rattle.mk_ssa.specs.declared.Operand.TheVariants.{Secret, Public, Block}
 use Rattle.mk_ssa.specs.Kinds.{shared_operands}
-use Rattle.mk_place.specs.Layout.{Marks, one, blocks_before, own_block, refresh_block, renamed, refreshed, with_operands, refresh_at, blocks_of, blocks_from}
+use Rattle.mk_ssa.specs.Operators.{with_operands_by}
+use Rattle.mk_place.specs.Layout.{Marks, one, blocks_before, own_block, refresh_block, renamed, refreshed, refresh_at, blocks_of, blocks_from}
 use Rattle.mk_place.specs.Laying.{named, HasName, HasNames, argument, refreshes, pick, with_refreshes, own_of, IsLaid}
 use Rattle.mk_place.specs.declared.marking.Fresh.{Fresh}
 
@@ -42,8 +43,8 @@ module _ (marks : Marks) (i : ℕ) (names : List ℕ) (each : (k : ℕ) → k < 
   -- the block of the value itself
   pub own-is : (op : Op) (l_0 l_1 : ℕ) (m_0 m_1 : Bool) → m_0 ≡ marks i 0 → m_1 ≡ marks i 1 → l_0 ≡ refresh_block marks i 0 → l_1 ≡ refresh_block marks i 1
       → HasNames names op
-      → with_operands (pick (argument names l_0 (slice_get (shared_operands op) 0) m_0) (argument names l_1 (slice_get (shared_operands op) 1) m_1)) (named names) op
-      ≡ with_operands (refreshed marks i) (renamed marks) op
+      → with_operands_by (pick (argument names l_0 (slice_get (shared_operands op) 0) m_0) (argument names l_1 (slice_get (shared_operands op) 1) m_1)) (named names) op
+      ≡ with_operands_by (refreshed marks i) (renamed marks) op
   own-is (Const value) l_0 l_1 m_0 m_1 is_0 is_1 at_0 at_1 has = refl
   own-is (PubAdd left right) l_0 l_1 m_0 m_1 is_0 is_1 at_0 at_1 has = ap₂ (λ a b. PubAdd a b) (named-is left has.0) (named-is right has.1.0)
   own-is (PubMul left right) l_0 l_1 m_0 m_1 is_0 is_1 at_0 at_1 has = ap₂ (λ a b. PubMul a b) (named-is left has.0) (named-is right has.1.0)
@@ -143,7 +144,7 @@ laid-step marks values i op blocks names fresh laid there has first second used 
     let long_0 : length r_0 ≡ one (marks i 0) = ap (λ (xs : List Op). length xs) is_0 ∙ refresh-long marks i 0 op in
     let long_1 : length r_1 ≡ one (marks i 1) = ap (λ (xs : List Op). length xs) is_1 ∙ refresh-long marks i 1 op in
     let at_1 : length (blocks ++ r_0) ≡ blocks_before marks i + one (marks i 0) = omega (arith, length-append blocks r_0, laid.count, long_0) in
-    let own_is : own ≡ with_operands (refreshed marks i) (renamed marks) op =
+    let own_is : own ≡ with_operands_by (refreshed marks i) (renamed marks) op =
     own-is marks i names laid.each op (length blocks) (length (blocks ++ r_0)) fresh.first fresh.second first second laid.count at_1 has in
     let whole : List Op = (blocks ++ r_0) ++ r_1 in
     let long : length whole ≡ own_block marks i = omega (arith, length-append (blocks ++ r_0) r_1, at_1, long_1) in

@@ -14,16 +14,18 @@ use Rattle.mk_ssa.specs.Values.{Values, Draft, draft, front, IsValues, IsSharedT
 use Rattle.mk_ssa.proofs.Lists.{IsSomeAnd-value}
 use Rattle.mk_rules.specs.Tiles.{value_number}
 use Rattle.mk_rules.specs.Reaches.{Link, links}
+use Rattle.mk_rules.proofs.Probes.{Contains-more, Contains-front}
+use Rattle.mk_rules.proofs.Noting.{use_of, uses-next}
+use Rattle.mk_rules.specs.Uses.{Use, uses_by, uses_from, uses_behind, shared_numbers}
 use Rattle.mk_place.specs.declared.marking.Fresh.{Fresh}
-use Rattle.mk_place.specs.Uses.{Use, plain, uses_by, uses_from}
+use Rattle.mk_place.specs.Uses.{shape_of_values}
 use Rattle.mk_place.specs.Layout.{renamed, laid_out, blocks_before, blocks_from}
 use Rattle.mk_rules.specs.Claimed.{Claimed}
 use Rattle.mk_place.specs.Needs.{marks_by}
-use Rattle.mk_place.specs.Marking.{AreMarks, all_marks, inputs, uses_behind, shared_numbers}
+use Rattle.mk_place.specs.Marking.{AreMarks, all_marks, inputs}
 use Rattle.mk_place.specs.Laying.{named, HasName, HasNames, IsLaid, with_refreshes, own_of}
-use Rattle.mk_place.proofs.Taking.{use_of, marks-past, marks-none, marks-place, uses-next}
+use Rattle.mk_place.proofs.Taking.{marks-past, marks-none, marks-place}
 use Rattle.mk_place.proofs.Naming.{laid-step, named-is}
-use Rattle.mk_place.proofs.Joining.{in-front, in-behind}
 
 -- a value's marks
 abbrev marks_of : Values → ℕ → Fresh
@@ -46,8 +48,8 @@ marks-later inputs from (l ∷ ls) (suc d) j k at =
     ∙ marks-later inputs (suc from) ls d j k (omega (arith, at))
 
 -- so those by all uses are those by the uses from the value on
-marks-all : (s : Values) (i k : ℕ) → all_marks s i k ≡ marks_by (inputs s) (uses_behind s i) i k
-marks-all s i k = marks-later (inputs s) 0 (links (plain s) s.values) i i k (omega arith)
+marks-all : (s : Values) (i k : ℕ) → all_marks s i k ≡ marks_by (inputs s) (uses_behind (shape_of_values s) s.values i) i k
+marks-all s i k = marks-later (inputs s) 0 (links (shape_of_values s) s.values) i i k (omega arith)
 
 -- where there is an element behind the first ones
 some-at : {X : Type 0} (xs : List X) (i j : ℕ) → i ≡ j → IsSome (slice_get xs i) → IsSome (slice_get xs j)
@@ -115,11 +117,11 @@ laid-none s = record { same = refl; count = refl; long = refl; each = λ k below
 -- what is marked of a value is there
 pub marked-there : (s : Values) (i k : ℕ) (op : Op) → slice_get s.values i ≡ Some op → all_marks s i k ≡ true → IsSome (slice_get (shared_operands op) k)
 marked-there s i k op there on =
-    let e : marks_by (inputs s) (uses_by i (kind op) 0 (shared_numbers s op) ++ uses_behind s (suc i)) i k ≡ true =
-    ap (λ (us : List Use). marks_by (inputs s) us i k) (sym (uses-next s i op there)) ∙ sym (marks-all s i k) ∙ on in
-    some-map (value_number (plain s)) (shared_operands op) k
-    (some-at (shared_numbers s op) (k - 0) k (omega arith) (marks-there (inputs s) i (kind op) 0 (shared_numbers s op) (uses_behind s (suc i)) k
-    (λ j. marks-none (inputs s) (suc i) (drop (suc i) (links (plain s) s.values)) i j (omega arith)) e).1)
+    let e : marks_by (inputs s) (uses_by i (kind op) 0 (shared_numbers (shape_of_values s) op) ++ uses_behind (shape_of_values s) s.values (suc i)) i k ≡ true =
+    ap (λ (us : List Use). marks_by (inputs s) us i k) (sym (uses-next (shape_of_values s) s.values i op there)) ∙ sym (marks-all s i k) ∙ on in
+    some-map (value_number (shape_of_values s)) (shared_operands op) k
+    (some-at (shared_numbers (shape_of_values s) op) (k - 0) k (omega arith) (marks-there (inputs s) i (kind op) 0 (shared_numbers (shape_of_values s) op) (uses_behind (shape_of_values s) s.values (suc i)) k
+    (λ j. marks-none (inputs s) (suc i) (drop (suc i) (links (shape_of_values s) s.values)) i j (omega arith)) e).1)
 
 module _ (s : Values) (is : IsValues s) (i : ℕ) (op : Op) (there : slice_get s.values i ≡ Some op) (blocks : List Op) (names : List ℕ)
     (laid : IsLaid (all_marks s) s.values i blocks names) where
@@ -157,7 +159,7 @@ outs-named s names is long = λ k d below. draft-has s names (get_or s.outs k d)
 map-same : {X Y : Type 0} (f g : X → Y) (xs : List X) → ((x : X) → Contains xs x → f x ≡ g x) → map f xs ≡ map g xs
 map-same f g [] same = refl
 map-same f g (x ∷ xs) same =
-    ap₂ (λ y ys. y ∷ ys) (same x (in-front x xs)) (map-same f g xs (λ y held. same y (in-behind x xs y held)))
+    ap₂ (λ y ys. y ∷ ys) (same x (Contains-front x xs)) (map-same f g xs (λ y held. same y (Contains-more x xs y held)))
 
 -- the certificate in the end
 pub laid-all : (s : Values) (is : IsValues s) (cert : Claimed) (blocks : List Op) (names : List ℕ) → IsLaid (all_marks s) s.values (length s.values) blocks names

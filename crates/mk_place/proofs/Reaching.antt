@@ -10,15 +10,19 @@ use Rattle.mk_ssa.specs.Values.{Values, IsValues}
 use Rattle.mk_rules.specs.Tiles.{value_number}
 use Rattle.mk_rules.specs.Reaches.{Reaches}
 use Rattle.mk_rules.proofs.Operators.{public-unshared}
-use Rattle.mk_place.specs.declared.need.Place.{Place}
-use Rattle.mk_place.specs.Uses.{Use, plain, uses}
+use Rattle.mk_rules.specs.declared.uses.OperandPlace.{OperandPlace}
+use Rattle.mk_rules.proofs.Probes.{Contains-more, Contains-front, Contains-none, Contains-only}
+use Rattle.mk_rules.proofs.Noting.{place_of}
+use Rattle.mk_rules.proofs.Using.{IsUse, use-is}
+use Rattle.mk_rules.specs.Uses.{Use, shared_numbers}
+use Rattle.mk_place.specs.Uses.{shape_of_values, uses}
 use Rattle.mk_place.specs.Layout.{Marks, own_block}
 use Rattle.mk_place.specs.Placed.{Brings, NeedsRefresh}
 use Rattle.mk_place.specs.Needs.{brought_by, brought, needs_by, mark_by}
-use Rattle.mk_place.specs.Marking.{shared_numbers, inputs}
-use Rattle.mk_place.proofs.Joining.{none-in, only-in, in-front, in-behind, place_of, Clashing, clash-at, clash-from}
+use Rattle.mk_place.specs.Marking.{inputs}
+use Rattle.mk_place.proofs.Joining.{Clashing, clash-at, clash-from}
 use Rattle.mk_place.proofs.Flow.{Ranked, comes-own, comes-from, IsBrought, Found, found-in, comes, comes-all}
-use Rattle.mk_place.proofs.Using.{IsUse, use-is, use-before, uses-ranked, ranked-front}
+use Rattle.mk_place.proofs.Using.{use-before, uses-ranked, ranked-front}
 use Rattle.mk_place.proofs.Hops.{moved, moved-value, stands-value, links_of, hop-at, Step, step-from}
 
 -- each of these uses is marked as the pass does by the uses behind it
@@ -42,10 +46,10 @@ module _ (s : Values) (is : IsValues s) where
   -- a use by a value isn't public
   public-unused : (u : Use) → Contains (uses s) u → u.kind ≡ Public → ⊥
   public-unused u held public =
-      let found : IsUse s u = use-is s u held in
+      let found : IsUse (shape_of_values s) s.values u = use-is (shape_of_values s) s.values u held in
       let none : length (shared_operands found.op) ≡ 0 = public-unshared found.op (sym found.same ∙ public) in
-      let some : length (shared_numbers s found.op) ≡ length (shared_operands found.op) = length-map (shared_operands found.op) (value_number (plain s)) in
-      omega (arith, slice_get_within (shared_numbers s found.op) u.place u.operand found.operand, some, none)
+      let some : length (shared_numbers (shape_of_values s) found.op) ≡ length (shared_operands found.op) = length-map (shared_operands found.op) (value_number (shape_of_values s)) in
+      omega (arith, slice_get_within (shared_numbers (shape_of_values s) found.op) u.place u.operand found.operand, some, none)
 
   -- the value of a use isn't used before it
   pub before-unused : (front : List Use) (u : Use) (behind : List Use) (x : Use) → uses s ≡ front ++ u ∷ behind → Contains (front ++ u ∷ []) x
@@ -58,12 +62,12 @@ module _ (s : Values) (is : IsValues s) where
         | inl early ↦
             let order : x.value ≤ u.value = ranked-front (inputs s) front u behind x (subst (Ranked (inputs s)) split (uses-ranked s)) early in
             omega (arith, below, order, at)
-        | inr own ↦ omega (arith, below, at, ap (λ (y : Use). y.value) (only-in u x own))
+        | inr own ↦ omega (arith, below, at, ap (λ (y : Use). y.value) (Contains-only u x own))
       ]
 
   module _ (marks : Marks) where
     -- what a use brings by its need it brings in the certificate
-    brings-from : (us : List Use) (u : Use) (p : Place) (kind : Kind) → u.kind ≡ kind → Contains (uses s) u
+    brings-from : (us : List Use) (u : Use) (p : OperandPlace) (kind : Kind) → u.kind ≡ kind → Contains (uses s) u
         → (Contains (needs_by (inputs s) us (inputs s + u.value)) p
         → Reaches (inputs s) (links_of s marks) (inputs s + own_block marks u.value) (own_block marks p.value) p.operand)
         → Contains (brought_by kind (place_of u.value u.place ∷ []) (needs_by (inputs s) us (inputs s + u.value))) p
@@ -71,8 +75,8 @@ module _ (s : Values) (is : IsValues s) where
     brings-from us u p Public is_kind there on held = absurd (public-unused u there is_kind)
     brings-from us u p Linear is_kind there on held = inr (is_kind, on held)
     brings-from us u p Strong is_kind there on held =
-        let same : place_of u.value u.place ≡ p = only-in (place_of u.value u.place) p held in
-        inl (is_kind, sym (ap (λ (x : Place). x.value) same), sym (ap (λ (x : Place). x.operand) same))
+        let same : place_of u.value u.place ≡ p = Contains-only (place_of u.value u.place) p held in
+        inl (is_kind, sym (ap (λ (x : OperandPlace). x.value) same), sym (ap (λ (x : OperandPlace). x.operand) same))
 
     -- and the other way round
     brings-to : (us : List Use) (u : Use) (q k : ℕ) → Brings (inputs s) (links_of s marks) marks u q k
@@ -80,36 +84,36 @@ module _ (s : Values) (is : IsValues s) where
         → Contains (needs_by (inputs s) us (inputs s + u.value)) (place_of q k))
         → Contains (brought (inputs s) (needs_by (inputs s) us) u) (place_of q k)
     brings-to us u q k brings on =
-        let here : List Place = place_of u.value u.place ∷ [] in
-        let own : List Place = needs_by (inputs s) us (inputs s + u.value) in
+        let here : List OperandPlace = place_of u.value u.place ∷ [] in
+        let own : List OperandPlace = needs_by (inputs s) us (inputs s + u.value) in
         elim brings [
           | inl strong ↦
               let same : place_of u.value u.place ≡ place_of q k = ap (λ (v : ℕ). place_of v u.place) (sym strong.1) ∙ ap (place_of q) (sym strong.2) in
               subst (λ (x : Kind). Contains (brought_by x here own) (place_of q k)) (sym strong.0)
-              (subst (Contains here) same (in-front (place_of u.value u.place) []))
+              (subst (Contains here) same (Contains-front (place_of u.value u.place) []))
           | inr linear ↦ subst (λ (x : Kind). Contains (brought_by x here own) (place_of q k)) (sym linear.0) (on linear.1)
         ]
 
     -- a value reaches the places of its need
-    pub need-reaches : (us : List Use) (v : ℕ) (p : Place) → ((u : Use) → Contains us u → Contains (uses s) u) → Agrees (inputs s) marks us
+    pub need-reaches : (us : List Use) (v : ℕ) (p : OperandPlace) → ((u : Use) → Contains us u → Contains (uses s) u) → Agrees (inputs s) marks us
         → Contains (needs_by (inputs s) us v) p → Reaches (inputs s) (links_of s marks) (moved s marks v) (own_block marks p.value) p.operand
     unfolding needs_by Agrees
-    need-reaches [] v p among agrees held = absurd (none-in p held)
+    need-reaches [] v p among agrees held = absurd (Contains-none p held)
     need-reaches (u ∷ us) v p among agrees held = elim (comes-from (inputs s) u us v p held) [
       | inl own ↦
-          let there : Contains (uses s) u = among u (in-front u us) in
+          let there : Contains (uses s) u = among u (Contains-front u us) in
           let off : marks u.value u.place ≡ false = agrees.0 ∙ own.kept in
           let brings : Brings (inputs s) (links_of s marks) marks u p.value p.operand =
           brings-from us u p u.kind refl there
           (λ later. subst (λ (n : ℕ). Reaches (inputs s) (links_of s marks) n (own_block marks p.value) p.operand) (moved-value s marks u.value)
-          (need-reaches us (inputs s + u.value) p (λ x more. among x (in-behind u us x more)) agrees.1 later)) own.brings in
+          (need-reaches us (inputs s + u.value) p (λ x more. among x (Contains-more u us x more)) agrees.1 later)) own.brings in
           subst (λ (n : ℕ). Reaches (inputs s) (links_of s marks) n (own_block marks p.value) p.operand)
           (stands-value s marks u off ∙ ap (moved s marks) (sym own.same)) (hop-at s marks is u p.value p.operand there brings)
-      | inr behind ↦ need-reaches us v p (λ x more. among x (in-behind u us x more)) agrees.1 behind
+      | inr behind ↦ need-reaches us v p (λ x more. among x (Contains-more u us x more)) agrees.1 behind
     ]
 
     -- so does a use
-    pub brought-brings : (us : List Use) (u : Use) (p : Place) → Contains (uses s) u → ((x : Use) → Contains us x → Contains (uses s) x)
+    pub brought-brings : (us : List Use) (u : Use) (p : OperandPlace) → Contains (uses s) u → ((x : Use) → Contains us x → Contains (uses s) x)
         → Agrees (inputs s) marks us → Contains (brought (inputs s) (needs_by (inputs s) us) u) p
         → Brings (inputs s) (links_of s marks) marks u p.value p.operand
     brought-brings us u p there among agrees held =
@@ -124,7 +128,7 @@ module _ (s : Values) (is : IsValues s) where
     reaches-need zero front us v q k split agrees high unused reaches =
         let step : Step s marks is v q k = step-from s marks is v q k reaches in
         let u : Use = step.hop in
-        let found : IsUse s u = use-is s u step.there in
+        let found : IsUse (shape_of_values s) s.values u = use-is (shape_of_values s) s.values u step.there in
         absurd (omega (arith, high, step.same, use-before s is u step.there, slice_get_within s.values u.value found.op found.there))
     reaches-need (suc n) front us v q k split agrees high unused reaches =
         let step : Step s marks is v q k = step-from s marks is v q k reaches in
@@ -170,7 +174,7 @@ module _ (s : Values) (is : IsValues s) where
     pub marked-needs : (front behind : List Use) (u : Use) → uses s ≡ front ++ u ∷ behind → Agrees (inputs s) marks behind
         → mark_by (inputs s) behind u ≡ true → NeedsRefresh (inputs s) (links_of s marks) marks u behind
     marked-needs front behind u split agrees on =
-        let need : List Place = needs_by (inputs s) behind u.operand in
+        let need : List OperandPlace = needs_by (inputs s) behind u.operand in
         let clash : Clashing need (brought (inputs s) (needs_by (inputs s) behind) u) =
         clash-from need (brought (inputs s) (needs_by (inputs s) behind) u) on in
         let found : Found (inputs s) behind (λ us x. IsBrought (inputs s) us x u.operand clash.first) =
@@ -182,10 +186,10 @@ module _ (s : Values) (is : IsValues s) where
         λ y held. subst (λ (us : List Use). Contains us y) (sym split) (Contains-append_right front (u ∷ behind) y held) in
         let inner : (y : Use) → Contains (x ∷ found.behind) y → Contains behind y =
         λ y held. subst (λ (us : List Use). Contains us y) (sym found.split) (Contains-append_right found.front (x ∷ found.behind) y held) in
-        let there : Contains behind x = inner x (in-front x found.behind) in
+        let there : Contains behind x = inner x (Contains-front x found.behind) in
         let later : Brings (inputs s) (links_of s marks) marks x clash.first.value clash.first.operand =
-        brought-brings found.behind x clash.first (among x (in-behind u behind x there))
-        (λ y held. among y (in-behind u behind y (inner y (in-behind x found.behind y held)))) parts.1 found.holds.brings in
+        brought-brings found.behind x clash.first (among x (Contains-more u behind x there))
+        (λ y held. among y (Contains-more u behind y (inner y (Contains-more x found.behind y held)))) parts.1 found.holds.brings in
         record {
           later = x;
           comes = there;
@@ -195,7 +199,7 @@ module _ (s : Values) (is : IsValues s) where
           place = clash.second.operand;
           other = clash.first.operand;
           brings =
-              brought-brings behind u clash.second (among u (in-front u behind)) (λ y held. among y (in-behind u behind y held)) agrees clash.there;
+              brought-brings behind u clash.second (among u (Contains-front u behind)) (λ y held. among y (Contains-more u behind y held)) agrees clash.there;
           brought = subst (λ (q : ℕ). Brings (inputs s) (links_of s marks) marks x q clash.first.operand) clash.same later;
           differ = λ e. clash.differ (sym e);
         }
@@ -210,7 +214,7 @@ module _ (s : Values) (is : IsValues s) where
         agrees-at (inputs s) marks found.front x found.behind (subst (Agrees (inputs s) marks) found.split agrees) in
         let whole : uses s ≡ ((front ++ u ∷ []) ++ found.front) ++ x ∷ found.behind =
         split-more (uses s) (front ++ u ∷ []) behind found.front found.behind x (split ∙ sym (append_assoc front (u ∷ []) behind)) found.split in
-        let first : Place = place_of needs.product needs.other in
+        let first : OperandPlace = place_of needs.product needs.other in
         let held : Contains (brought (inputs s) (needs_by (inputs s) found.behind) x) first =
         brings-brought ((front ++ u ∷ []) ++ found.front) found.behind x needs.product needs.other whole parts.1
         (subst (λ (y : Use). Brings (inputs s) (links_of s marks) marks y needs.product needs.other) (sym found.holds) needs.brought) in
@@ -219,7 +223,7 @@ module _ (s : Values) (is : IsValues s) where
         let at : x.operand ≡ u.operand = ap (λ (y : Use). y.operand) found.holds ∙ needs.same in
         let own : Contains (needs_by (inputs s) (x ∷ found.behind) u.operand) first =
         subst (λ (w : ℕ). Contains (needs_by (inputs s) (x ∷ found.behind) w) first) at (comes-own (inputs s) x found.behind first off held) in
-        let need : List Place = needs_by (inputs s) behind u.operand in
+        let need : List OperandPlace = needs_by (inputs s) behind u.operand in
         clash-at need (brought (inputs s) (needs_by (inputs s) behind) u)
         (record {
           first = first;

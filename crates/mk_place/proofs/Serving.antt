@@ -9,21 +9,22 @@ use Rattle.mk_ssa.specs.declared.Op.TheVariants.{Const, PubAdd, PubMul, PubSq, P
 use Rattle.mk_ssa.specs.declared.Operand.{Operand}
 use Rattle.mk_ssa.specs.declared.Operand.TheVariants.{Secret, Block}
 use Rattle.mk_ssa.specs.Kinds.{Linear, kind, shared_operands, public_operands}
-use Rattle.mk_ssa.specs.Operators.{Operator, operator, operands}
+use Rattle.mk_ssa.specs.Operators.{Operator, operator, operands, with_operands_by}
 use Rattle.mk_ssa.specs.Values.{Values, IsValues}
 use Rattle.mk_ssa.proofs.Lists.{IsSomeAnd-value, IsSomeAnd-from, slice_get-more}
 use Rattle.mk_simplify.proofs.Operators.{operands-few}
 use Rattle.mk_rules.specs.Claimed.{Claimed}
 use Rattle.mk_rules.specs.Tiles.{value_number}
 use Rattle.mk_rules.specs.Wired.{IsSharedThere}
-use Rattle.mk_place.specs.Uses.{Use, plain, uses}
-use Rattle.mk_place.specs.Layout.{Marks, one, own_block, refresh_block, renamed, refreshed, with_operands, blocks_from, laid_out}
+use Rattle.mk_rules.proofs.Using.{IsUse, use-is}
+use Rattle.mk_rules.specs.Uses.{Use}
+use Rattle.mk_place.specs.Uses.{shape_of_values, uses}
+use Rattle.mk_place.specs.Layout.{Marks, one, own_block, refresh_block, renamed, refreshed, blocks_from, laid_out}
 use Rattle.mk_place.specs.Placed.{Placed}
 use Rattle.mk_place.specs.Different.{IsRefresh}
 use Rattle.mk_place.specs.TakenOut.{is_no_refresh}
 use Rattle.mk_place.specs.Refreshes.{HasOperand, IsUsedOnce, StandsBefore}
 use Rattle.mk_place.proofs.Wiring.{wired-value}
-use Rattle.mk_place.proofs.Using.{IsUse, use-is}
 use Rattle.mk_place.proofs.Blocks.{own-there, refresh-there, each-block, refresh-once}
 use Rattle.mk_place.proofs.Differing.{shared-laid, public-laid, block-once, renamed-fresh, fresh-on, fresh-off}
 use Rattle.mk_place.proofs.Fitting.{AreAtUses, each-wired}
@@ -69,7 +70,7 @@ module _ (marks : Marks) (s : Values) (is : IsValues s) (used : (i k : ℕ) → 
 
   -- the own block of a value
   abbrev own : ℕ → Op → Op
-  own i op = with_operands (refreshed marks i) (renamed marks) op
+  own i op = with_operands_by (refreshed marks i) (renamed marks) op
 
   -- a refresh is that for a use
   record IsFor (r : ℕ) : Type 0 where
@@ -242,8 +243,8 @@ module _ (s : Values) (is : IsValues s) (cert : Claimed) (placed : Placed s cert
   placed-used : (i k : ℕ) → placed.marks i k ≡ true → IsAtUse s.values i k
   placed-used i k on =
       let found : (u : Use) × Contains (uses s) u × (u.value ≡ i) × (u.place ≡ k) = placed.used i k on in
-      let found_use : IsUse s found.0 = use-is s found.0 found.1 in
-      let operand = image-from (value_number (plain s)) (shared_operands found_use.op) found.0.place found.0.operand found_use.operand in
+      let found_use : IsUse (shape_of_values s) s.values found.0 = use-is (shape_of_values s) s.values found.0 found.1 in
+      let operand = image-from (value_number (shape_of_values s)) (shared_operands found_use.op) found.0.place found.0.operand found_use.operand in
       record {
         op = found_use.op;
         operand = operand.0;
@@ -260,11 +261,11 @@ module _ (s : Values) (is : IsValues s) (cert : Claimed) (placed : Placed s cert
       subst (λ (x : Op). IsSome (slice_get (shared_operands x) k)) same (subst IsSome (sym at_use.at) refl)
 
   -- a refresh is of a shared value that is there
-  pub placed-shared : (r : ℕ) (v : Operand) → slice_get cert.blocks r ≡ Some (Refresh v) → IsSharedThere (plain s) (take r cert.blocks) v
+  pub placed-shared : (r : ℕ) (v : Operand) → slice_get cert.blocks r ≡ Some (Refresh v) → IsSharedThere (shape_of_values s) (take r cert.blocks) v
   placed-shared =
-      subst (λ (c : Claimed). (r : ℕ) (v : Operand) → slice_get c.blocks r ≡ Some (Refresh v) → IsSharedThere (plain s) (take r c.blocks) v)
+      subst (λ (c : Claimed). (r : ℕ) (v : Operand) → slice_get c.blocks r ≡ Some (Refresh v) → IsSharedThere (shape_of_values s) (take r c.blocks) v)
       (sym placed.laid)
-      (λ r v there. each-wired placed.marks (plain s) s.values placed-there (λ i op at. wired-value s is i op at) r (Refresh v) there)
+      (λ r v there. each-wired placed.marks (shape_of_values s) s.values placed-there (λ i op at. wired-value s is i op at) r (Refresh v) there)
 
   -- it is used once
   pub placed-once : (r : ℕ) (v : Operand) → slice_get cert.blocks r ≡ Some (Refresh v) → IsUsedOnce cert r

@@ -4,11 +4,13 @@ use Rattle.std.specs.List.{Contains}
 use Rattle.std.proofs.lemmas.Bool.{cases_eq, false≢true, false_from_ne_true}
 use Rattle.mk_ssa.specs.declared.Op.{Op}
 use Rattle.mk_rules.specs.Rows.{HasBit, Clash}
-use Rattle.mk_place.specs.declared.need.Place.{Place}
+use Rattle.mk_rules.specs.declared.uses.OperandPlace.{OperandPlace}
+use Rattle.mk_rules.proofs.Counting.{products-once}
+use Rattle.mk_rules.proofs.Probes.{Contains-front, Contains-none, Contains-only}
+use Rattle.mk_rules.specs.Products.{products_before}
 use Rattle.mk_place.specs.Needs.{clash, added}
-use Rattle.mk_place.specs.Marking.{IsNeed, IsPlace, bit_of, products_before}
-use Rattle.mk_place.proofs.Joining.{none-in, only-in, in-front, Clashing, clash-at, clash-from, added-left, added-right, added-from}
-use Rattle.mk_place.proofs.Products.{products-once}
+use Rattle.mk_place.specs.Marking.{IsNeed, IsPlace, bit_of}
+use Rattle.mk_place.proofs.Joining.{Clashing, clash-at, clash-from, added-left, added-right, added-from}
 
 -- two answers that come together are the same
 pub same-answer : (a b : Bool) → (a ≡ true → b ≡ true) → (b ≡ true → a ≡ true) → a ≡ b
@@ -20,19 +22,19 @@ module _ (ops : List Op) where
   -- a row without bits stands for no place
   pub need-none : (row : List ℕ) → ((k : ℕ) → HasBit row k → ⊥) → IsNeed ops [] row
   need-none row none = record {
-    bits = λ k. (λ set. absurd (none k set), λ found. absurd (none-in found.0 found.1));
-    places = λ p held. absurd (none-in p held);
-    alone = λ p q held also same. absurd (none-in p held);
+    bits = λ k. (λ set. absurd (none k set), λ found. absurd (Contains-none found.0 found.1));
+    places = λ p held. absurd (Contains-none p held);
+    alone = λ p q held also same. absurd (Contains-none p held);
   }
 
   -- places whose bits are of one product are of one value
-  one-value : (p q : Place) → IsPlace ops p → IsPlace ops q → products_before ops p.value ≡ products_before ops q.value → p.value ≡ q.value
-  one-value p q is other same = products-once ops p.value q.value is.op other.op is.there is.strong other.there other.strong same
+  one-value : (p q : OperandPlace) → IsPlace ops p → IsPlace ops q → products_before ops p.value ≡ products_before ops q.value → p.value ≡ q.value
+  one-value p q is other same = products-once ops p.value q.value is.op other.op is.there is.product other.there other.product same
 
   -- what a row stands for with what is brought
-  pub need-added : (need brought : List Place) (row new : List ℕ) → IsNeed ops need row → ((p : Place) → Contains brought p → IsPlace ops p)
-      → ((p q : Place) → Contains brought p → Contains brought q → p.value ≡ q.value → p.operand ≡ q.operand)
-      → ((k : ℕ) → HasBit new k ↔ (HasBit row k ⊎ ((clash need brought ≡ false) × ((p : Place) × Contains brought p × (bit_of ops p ≡ k)))))
+  pub need-added : (need brought : List OperandPlace) (row new : List ℕ) → IsNeed ops need row → ((p : OperandPlace) → Contains brought p → IsPlace ops p)
+      → ((p q : OperandPlace) → Contains brought p → Contains brought q → p.value ≡ q.value → p.operand ≡ q.operand)
+      → ((k : ℕ) → HasBit new k ↔ (HasBit row k ⊎ ((clash need brought ≡ false) × ((p : OperandPlace) × Contains brought p × (bit_of ops p ≡ k)))))
       → IsNeed ops (added need brought) new
   need-added need brought row new is places alone bits = record {
     bits = λ k. (
@@ -61,7 +63,7 @@ module _ (ops : List Op) where
     ];
   }
     where
-      apart : (p q : Place) → clash need brought ≡ false → Contains need p → Contains brought q → p.value ≡ q.value → p.operand ≡ q.operand
+      apart : (p q : OperandPlace) → clash need brought ≡ false → Contains need p → Contains brought q → p.value ≡ q.value → p.operand ≡ q.operand
       apart p q kept held there same = elim (cases_eq p.operand q.operand) [
         | inl equal ↦ equal
         | inr differ ↦
@@ -69,16 +71,16 @@ module _ (ops : List Op) where
       ]
 
   -- what is left by a use: whether it clashes, and the need with what it brings
-  pub record Taken (need brought : List Place) (new : List ℕ) (clashes : Bool) : Type 0 where
+  pub record Taken (need brought : List OperandPlace) (new : List ℕ) (clashes : Bool) : Type 0 where
     pub answer : clashes ≡ clash need brought
     pub taken : IsNeed ops (added need brought) new
 
   -- where clashes are told by the rows
-  told : (need brought : List Place) (row new : List ℕ) (clashes : Bool) (Tells : Type 0) → IsNeed ops need row
-      → ((p : Place) → Contains brought p → IsPlace ops p)
-      → ((p q : Place) → Contains brought p → Contains brought q → p.value ≡ q.value → p.operand ≡ q.operand)
+  told : (need brought : List OperandPlace) (row new : List ℕ) (clashes : Bool) (Tells : Type 0) → IsNeed ops need row
+      → ((p : OperandPlace) → Contains brought p → IsPlace ops p)
+      → ((p q : OperandPlace) → Contains brought p → Contains brought q → p.value ≡ q.value → p.operand ≡ q.operand)
       → (Tells → clash need brought ≡ true) → (clash need brought ≡ true → Tells) → IsTrue clashes ↔ Tells
-      → ((k : ℕ) → HasBit new k ↔ (HasBit row k ⊎ ((Tells → ⊥) × ((p : Place) × Contains brought p × (bit_of ops p ≡ k)))))
+      → ((k : ℕ) → HasBit new k ↔ (HasBit row k ⊎ ((Tells → ⊥) × ((p : OperandPlace) × Contains brought p × (bit_of ops p ≡ k)))))
       → Taken need brought new clashes
   told need brought row new clashes Tells is places alone from to answers bits = record {
     answer = same-answer clashes (clash need brought) (λ on. from (answers.0 on)) (λ on. answers.1 (to on));
@@ -95,36 +97,36 @@ module _ (ops : List Op) where
   }
 
   -- a place, where the row is asked for the other place of the product
-  pub place-taken : (need : List Place) (p : Place) (row new : List ℕ) (clashes : Bool) (own other : ℕ) → IsNeed ops need row → IsPlace ops p
+  pub place-taken : (need : List OperandPlace) (p : OperandPlace) (row new : List ℕ) (clashes : Bool) (own other : ℕ) → IsNeed ops need row → IsPlace ops p
       → own ≡ bit_of ops p → other ≡ 2 * products_before ops p.value + (1 - p.operand) → IsTrue clashes ↔ HasBit row other
       → ((k : ℕ) → HasBit new k ↔ (HasBit row k ⊎ ((HasBit row other → ⊥) × (k ≡ own)))) → Taken need (p ∷ []) new clashes
   place-taken need p row new clashes own other is place own_is other_is answers bits =
       told need (p ∷ []) row new clashes (HasBit row other) is
-      (λ q held. subst (IsPlace ops) (only-in p q held) place)
-      (λ q x held also same. ap (λ (y : Place). y.operand) (sym (only-in p q held) ∙ only-in p x also))
+      (λ q held. subst (IsPlace ops) (Contains-only p q held) place)
+      (λ q x held also same. ap (λ (y : OperandPlace). y.operand) (sym (Contains-only p q held) ∙ Contains-only p x also))
       from to answers
       (λ k. (
         λ set. elim ((bits k).0 set) [
           | inl old ↦ inl old
-          | inr more ↦ inr (more.0, (p, in-front p [], sym (more.1 ∙ own_is)))
+          | inr more ↦ inr (more.0, (p, Contains-front p [], sym (more.1 ∙ own_is)))
         ],
         λ set. (bits k).1 (elim set [
           | inl old ↦ inl old
-          | inr more ↦ inr (more.0, sym more.1.2 ∙ sym (own_is ∙ ap (bit_of ops) (only-in p more.1.0 more.1.1)))
+          | inr more ↦ inr (more.0, sym more.1.2 ∙ sym (own_is ∙ ap (bit_of ops) (Contains-only p more.1.0 more.1.1)))
         ]),
       ))
     where
       from : HasBit row other → clash need (p ∷ []) ≡ true
       from set =
           let found = (is.bits other).0 set in
-          let q : Place = found.0 in
+          let q : OperandPlace = found.0 in
           let here : IsPlace ops q = is.places q found.1 in
           let rank : products_before ops q.value ≡ products_before ops p.value = omega (arith, found.2, other_is, here.two, place.two) in
           clash-at need (p ∷ []) (record {
             first = q;
             second = p;
             held = found.1;
-            there = in-front p [];
+            there = Contains-front p [];
             same = one-value q p here place rank;
             differ = λ e. omega (arith, e, found.2, other_is, here.two, place.two, rank);
           })
@@ -133,9 +135,9 @@ module _ (ops : List Op) where
       to on =
           let c : Clashing need (p ∷ []) = clash-from need (p ∷ []) on in
           let here : IsPlace ops c.first = is.places c.first c.held in
-          let same : p ≡ c.second = only-in p c.second c.there in
-          let value : c.first.value ≡ p.value = c.same ∙ sym (ap (λ (y : Place). y.value) same) in
-          let operand : c.first.operand ≢ p.operand = λ e. c.differ (e ∙ ap (λ (y : Place). y.operand) same) in
+          let same : p ≡ c.second = Contains-only p c.second c.there in
+          let value : c.first.value ≡ p.value = c.same ∙ sym (ap (λ (y : OperandPlace). y.value) same) in
+          let operand : c.first.operand ≢ p.operand = λ e. c.differ (e ∙ ap (λ (y : OperandPlace). y.operand) same) in
           let turned : c.first.operand ≡ 1 - p.operand = elim (cases_eq c.first.operand p.operand) [
             | inl equal ↦ absurd (operand equal)
             | inr differ ↦ omega (arith, differ, here.two, place.two)
@@ -143,7 +145,7 @@ module _ (ops : List Op) where
           (is.bits other).1 (c.first, c.held, omega (arith, other_is, turned, ap (products_before ops) value))
 
   -- another row
-  pub row-taken : (need brought : List Place) (row other new : List ℕ) (clashes : Bool) → IsNeed ops need row → IsNeed ops brought other
+  pub row-taken : (need brought : List OperandPlace) (row other new : List ℕ) (clashes : Bool) → IsNeed ops need row → IsNeed ops brought other
       → IsTrue clashes ↔ Clash row other
       → ((k : ℕ) → HasBit new k ↔ (HasBit row k ⊎ ((Clash row other → ⊥) × HasBit other k))) → Taken need brought new clashes
   row-taken need brought row other new clashes is also answers bits =
@@ -160,7 +162,7 @@ module _ (ops : List Op) where
       ))
     where
       -- two places whose bits are a pair are of one value, and differ
-      paired : (p q : Place) (r : ℕ) → IsPlace ops p → IsPlace ops q → bit_of ops p ≡ 2 * r → bit_of ops q ≡ 2 * r + 1
+      paired : (p q : OperandPlace) (r : ℕ) → IsPlace ops p → IsPlace ops q → bit_of ops p ≡ 2 * r → bit_of ops q ≡ 2 * r + 1
           → (p.value ≡ q.value) × (p.operand ≢ q.operand)
       paired p q r here there low high =
           let rank : products_before ops p.value ≡ products_before ops q.value = omega (arith, low, high, here.two, there.two) in

@@ -1,20 +1,11 @@
 -- The uses by a value and those behind it, and the marks by them.
-use Rattle.std.proofs.Common.{◌≡◌, ℕ, zero, suc, ◌<◌, ◌≤◌, false, ◌&&◌, Some, List, [], ◌∷◌, ◌++◌, length, drop, slice_get, nat_eq, refl, ◌∙◌, ap, arith}
+use Rattle.std.proofs.Common.{◌≡◌, ℕ, suc, ◌<◌, ◌≤◌, false, ◌&&◌, Some, List, [], ◌∷◌, ◌++◌, length, slice_get, nat_eq, refl, ◌∙◌, arith}
 use Rattle.std.proofs.lemmas.Bool.{cond-false, and_left, and_right, ne_eqb}
-use Rattle.std.proofs.lemmas.Option.{same_Some}
-use Rattle.mk_ssa.specs.declared.Op.{Op}
 use Rattle.mk_ssa.specs.Kinds.{Kind, kind}
-use Rattle.mk_ssa.specs.Values.{Values}
-use Rattle.mk_rules.specs.Shape.{Shape}
-use Rattle.mk_rules.specs.Reaches.{Link, links}
-use Rattle.mk_rules.proofs.Doubled.{link_of}
-use Rattle.mk_place.specs.Uses.{Use, plain, uses_by, uses_from}
+use Rattle.mk_rules.specs.Reaches.{Link}
+use Rattle.mk_rules.specs.Uses.{Use, uses_by, uses_from}
+use Rattle.mk_rules.proofs.Noting.{use_of}
 use Rattle.mk_place.specs.Needs.{mark_by, marks_by}
-use Rattle.mk_place.specs.Marking.{uses_behind, shared_numbers}
-
--- a use by its parts
-abbrev pub use_of : ℕ → Kind → ℕ → ℕ → Use
-use_of value kind place operand = record { value = value; kind = kind; place = place; operand = operand }
 
 -- the mark of a use at another place
 pub marks-place : (inputs : ℕ) (u : Use) (us : List Use) (i k : ℕ) → (k ≡ u.place → ⊥) → marks_by inputs (u ∷ us) i k ≡ marks_by inputs us i k
@@ -46,19 +37,6 @@ marks-none inputs from [] i k below = refl
 marks-none inputs from (l ∷ ls) i k below =
     marks-past inputs from l.kind 0 l.shared (uses_from (suc from) ls) i k (λ e. omega (arith, e, below))
     ∙ marks-none inputs (suc from) ls i k (omega (arith, below))
-
--- the links of the blocks from one on
-pub drop-links : (shape : Shape) (ops : List Op) (i : ℕ) (op : Op) → slice_get ops i ≡ Some op
-    → drop i (links shape ops) ≡ link_of shape op ∷ drop (suc i) (links shape ops)
-drop-links shape [] i op there = absurd (cc)
-drop-links shape (x ∷ ops) zero op there = ap (λ (y : Op). link_of shape y ∷ links shape ops) (same_Some x op there)
-drop-links shape (x ∷ ops) (suc i) op there = drop-links shape ops i op there
-
--- the uses by a value and those behind it
-pub uses-next : (s : Values) (i : ℕ) (op : Op) → slice_get s.values i ≡ Some op
-    → uses_behind s i ≡ uses_by i (kind op) 0 (shared_numbers s op) ++ uses_behind s (suc i)
-unfolding uses_from
-uses-next s i op there = ap (uses_from i) (drop-links (plain s) s.values i op there)
 
 -- the numbers of two operands at most, below a number
 pub record AreOperands (len : ℕ) (vs : List ℕ) : Type 0 where

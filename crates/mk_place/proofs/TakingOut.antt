@@ -21,8 +21,9 @@ use Rattle.mk_simplify.proofs.Operators.{operator-with, operands-with, operands-
 use Rattle.mk_rules.specs.Claimed.{Claimed}
 use Rattle.mk_rules.specs.Wired.{IsSharedThere, IsPublicThere}
 use Rattle.mk_rules.proofs.Operators.{wired-operands}
-use Rattle.mk_place.specs.Uses.{plain}
-use Rattle.mk_place.specs.Layout.{Marks, blocks_before, own_block, refresh_block, renamed, refreshed, with_operands, refresh_at, blocks_of, blocks_from, laid_out}
+use Rattle.mk_ssa.specs.Operators.{with_operands_by}
+use Rattle.mk_place.specs.Uses.{shape_of_values}
+use Rattle.mk_place.specs.Layout.{Marks, blocks_before, own_block, refresh_block, renamed, refreshed, refresh_at, blocks_of, blocks_from, laid_out}
 use Rattle.mk_place.specs.TakenOut.{is_no_refresh, new_number, refreshed_or, unrefreshed, renumbered, new_operand, without_refreshes}
 use Rattle.mk_place.specs.Placed.{Placed}
 use Rattle.mk_place.proofs.Wiring.{wired-value, each-at}
@@ -44,7 +45,7 @@ pub values-plain : (s : Values) → IsValues s → AreNoRefreshes s.values
 values-plain s is k op there = fits-plain (ssa.front (draft s) k) op (is.made.fit k op there)
 
 -- other operands make no refresh
-pub own-plain : (shared : ℕ → Operand → Operand) (public : Operand → Operand) (op : Op) → is_no_refresh (with_operands shared public op) ≡ is_no_refresh op
+pub own-plain : (shared : ℕ → Operand → Operand) (public : Operand → Operand) (op : Op) → is_no_refresh (with_operands_by shared public op) ≡ is_no_refresh op
 own-plain shared public (Const value) = refl
 own-plain shared public _ = refl
 
@@ -64,7 +65,7 @@ count-append xs ys = sum_by-append (λ (op : Op). cond (is_no_refresh op) 1 0) x
 -- the own blocks of values, of which the first has the number i
 abbrev owns : Marks → ℕ → List Op → List Op
 owns marks i [] = []
-owns marks i (op ∷ ops) = with_operands (refreshed marks i) (renamed marks) op ∷ owns marks (suc i) ops
+owns marks i (op ∷ ops) = with_operands_by (refreshed marks i) (renamed marks) op ∷ owns marks (suc i) ops
 
 -- values without the first
 rest-plain : (op : Op) (ops : List Op) → AreNoRefreshes (op ∷ ops) → AreNoRefreshes ops
@@ -93,22 +94,22 @@ module _ (marks : Marks) where
 
   -- the own block stays
   filter-own : (i : ℕ) (op : Op) → is_no_refresh op ≡ true
-      → filter is_no_refresh (with_operands (refreshed marks i) (renamed marks) op ∷ []) ≡ with_operands (refreshed marks i) (renamed marks) op ∷ []
+      → filter is_no_refresh (with_operands_by (refreshed marks i) (renamed marks) op ∷ []) ≡ with_operands_by (refreshed marks i) (renamed marks) op ∷ []
   filter-own i op plain =
-      let own : Op = with_operands (refreshed marks i) (renamed marks) op in
+      let own : Op = with_operands_by (refreshed marks i) (renamed marks) op in
       cond-true (is_no_refresh own) (own ∷ []) [] (own-plain (refreshed marks i) (renamed marks) op ∙ plain)
 
   -- the value's own block is counted
-  count-own : (i : ℕ) (op : Op) → is_no_refresh op ≡ true → count (with_operands (refreshed marks i) (renamed marks) op ∷ []) ≡ 1
+  count-own : (i : ℕ) (op : Op) → is_no_refresh op ≡ true → count (with_operands_by (refreshed marks i) (renamed marks) op ∷ []) ≡ 1
   count-own i op plain =
-      let own : Op = with_operands (refreshed marks i) (renamed marks) op in
+      let own : Op = with_operands_by (refreshed marks i) (renamed marks) op in
       ap (λ (b : Bool). 0 + cond b 1 0) (own-plain (refreshed marks i) (renamed marks) op ∙ plain)
 
   -- of the blocks of a value
   filter-of : (i : ℕ) (op : Op) → is_no_refresh op ≡ true
-      → filter is_no_refresh (blocks_of marks i op) ≡ with_operands (refreshed marks i) (renamed marks) op ∷ []
+      → filter is_no_refresh (blocks_of marks i op) ≡ with_operands_by (refreshed marks i) (renamed marks) op ∷ []
   filter-of i op plain =
-      let own : List Op = with_operands (refreshed marks i) (renamed marks) op ∷ [] in
+      let own : List Op = with_operands_by (refreshed marks i) (renamed marks) op ∷ [] in
       filter-append is_no_refresh (refresh_at marks i 0 op ++ refresh_at marks i 1 op) own
       ∙ ap (λ (xs : List Op). xs ++ filter is_no_refresh own) (filter-append is_no_refresh (refresh_at marks i 0 op) (refresh_at marks i 1 op)
       ∙ ap₂ (λ (xs ys : List Op). xs ++ ys) (filter-fresh i 0 op) (filter-fresh i 1 op))
@@ -119,7 +120,7 @@ module _ (marks : Marks) where
   count-of i op plain =
       omega (
         arith,
-        count-append (refresh_at marks i 0 op ++ refresh_at marks i 1 op) (with_operands (refreshed marks i) (renamed marks) op ∷ []),
+        count-append (refresh_at marks i 0 op ++ refresh_at marks i 1 op) (with_operands_by (refreshed marks i) (renamed marks) op ∷ []),
         count-refreshes i op,
         count-own i op plain,
       )
@@ -139,7 +140,7 @@ module _ (marks : Marks) where
   count-before i [] k m op plain there at = absurd (cc)
   count-before i (x ∷ ops) zero m op plain there at =
       let rs : List Op = refresh_at marks i 0 x ++ refresh_at marks i 1 x in
-      let own : List Op = with_operands (refreshed marks i) (renamed marks) x ∷ [] in
+      let own : List Op = with_operands_by (refreshed marks i) (renamed marks) x ∷ [] in
       let same : i + 0 ≡ i = omega arith in
       let e : m ≡ length rs = omega (arith, at, refreshes-long marks i x, ap (own_block marks) same) in
       ap (λ (n : ℕ). count (take n (blocks_from marks i (x ∷ ops)))) e
@@ -164,7 +165,7 @@ abbrev IsBelow : ℕ → Operand → Type 0
 IsBelow n = renumbering.IsBelow n
 
 -- shared operands are
-shared-below : (s : Values) (i : ℕ) (v : Operand) → IsSharedThere (plain s) (take i s.values) v → IsBelow (length s.values) v
+shared-below : (s : Values) (i : ℕ) (v : Operand) → IsSharedThere (shape_of_values s) (take i s.values) v → IsBelow (length s.values) v
 shared-below s i (Secret k) there = tt
 shared-below s i (Public k) there = tt
 shared-below s i (Block k) there =
@@ -172,7 +173,7 @@ shared-below s i (Block k) there =
     slice_get_within s.values k at.0 (slice_get-front s.values i k at.0 at.1).1
 
 -- public ones too
-public-below : (s : Values) (i : ℕ) (v : Operand) → IsPublicThere (plain s) (take i s.values) v → IsBelow (length s.values) v
+public-below : (s : Values) (i : ℕ) (v : Operand) → IsPublicThere (shape_of_values s) (take i s.values) v → IsBelow (length s.values) v
 public-below s i (Secret k) there = tt
 public-below s i (Public k) there = tt
 public-below s i (Block k) there =
@@ -231,7 +232,7 @@ module _ (marks : Marks) (s : Values) (is : IsValues s) where
   unrefreshed-own (Block k) below =
       let op : Op = get_or s.values k (Const 0) in
       let there : slice_get s.values k ≡ Some op = slice_get-get_or s.values k (Const 0) below in
-      let own : Op = with_operands (refreshed marks k) (renamed marks) op in
+      let own : Op = with_operands_by (refreshed marks k) (renamed marks) op in
       ap (λ (o : Option Op). refreshed_or o (Block (own_block marks k))) (own-there marks s.values k op there)
       ∙ or-plain own (Block (own_block marks k)) (own-plain (refreshed marks k) (renamed marks) op ∙ values-plain s is k op there)
 
@@ -243,14 +244,14 @@ module _ (marks : Marks) (s : Values) (is : IsValues s) where
     -- the operand of a wired value at a place
     shared-at : (k : ℕ) (v : Operand) → slice_get (shared_operands op) k ≡ Some v → IsBelow (length s.values) v
     shared-at k v at =
-        shared-below s i v (each-at (IsSharedThere (plain s) (take i s.values)) (shared_operands op) k v
-        (wired-operands (plain s) (take i s.values) op (wired-value s is i op there)).0 at)
+        shared-below s i v (each-at (IsSharedThere (shape_of_values s) (take i s.values)) (shared_operands op) k v
+        (wired-operands (shape_of_values s) (take i s.values) op (wired-value s is i op there)).0 at)
 
     -- a public operand is of a value that is there
     public-at : (k : ℕ) (v : Operand) → slice_get (public_operands op) k ≡ Some v → IsBelow (length s.values) v
     public-at k v at =
-        public-below s i v (each-at (IsPublicThere (plain s) (take i s.values)) (public_operands op) k v
-        (wired-operands (plain s) (take i s.values) op (wired-value s is i op there)).1 at)
+        public-below s i v (each-at (IsPublicThere (shape_of_values s) (take i s.values)) (public_operands op) k v
+        (wired-operands (shape_of_values s) (take i s.values) op (wired-value s is i op there)).1 at)
 
     -- the refresh for a use stands for its operand
     fresh-back : (k : ℕ) (v : Operand) → k < 2 → slice_get (shared_operands op) k ≡ Some v → marks i k ≡ true
@@ -268,10 +269,10 @@ module _ (marks : Marks) (s : Values) (is : IsValues s) where
     ]
 
     -- and so does the value
-    value-back : operators.with_operands (new_operand blocks) (with_operands (refreshed marks i) (renamed marks) op) ≡ op
+    value-back : operators.with_operands (new_operand blocks) (with_operands_by (refreshed marks i) (renamed marks) op) ≡ op
     value-back =
         let f : Operand → Operand = new_operand blocks in
-        let own : Op = with_operands (refreshed marks i) (renamed marks) op in
+        let own : Op = with_operands_by (refreshed marks i) (renamed marks) op in
         let short : length (shared_operands op) ≤ 2 =
         omega (arith, length-append (shared_operands op) (public_operands op), operands-few op) in
         same-op (operators.with_operands f own) op (operator-with f own ∙ operator-laid (refreshed marks i) (renamed marks) op)

@@ -15,8 +15,10 @@ use Rattle.mk_rules.specs.Tiles.{value_number}
 use Rattle.mk_rules.specs.Wired.{IsSharedThere, IsPublicThere, IsWired}
 use Rattle.mk_rules.proofs.Operators.{wired-operands}
 use Rattle.mk_rules.proofs.Doubled.{number-there}
-use Rattle.mk_place.specs.Uses.{plain}
-use Rattle.mk_place.specs.Marking.{shared_numbers, inputs}
+use Rattle.mk_rules.proofs.Noting.{operands-short}
+use Rattle.mk_rules.specs.Uses.{shared_numbers}
+use Rattle.mk_place.specs.Uses.{shape_of_values}
+use Rattle.mk_place.specs.Marking.{inputs}
 use Rattle.mk_place.proofs.Taking.{AreOperands}
 
 -- what holds of each operand holds of the one at a place
@@ -26,19 +28,19 @@ each-at P (x ∷ vs) zero v each there = subst P (same_Some x v there) each.0
 each-at P (x ∷ vs) (suc k) v each there = each-at P vs k v each.1 there
 
 -- a shared operand is there in the one sense and in the other
-shared-there : (s : Values) (n : ℕ) (v : Operand) → ssa.IsSharedThere (front (draft s) n) v → IsSharedThere (plain s) (take n s.values) v
+shared-there : (s : Values) (n : ℕ) (v : Operand) → ssa.IsSharedThere (front (draft s) n) v → IsSharedThere (shape_of_values s) (take n s.values) v
 shared-there s n (Secret k) there = there
 shared-there s n (Public k) there = absurd there
 shared-there s n (Block k) there = there
 
 -- a public one too
-public-there : (s : Values) (n : ℕ) (v : Operand) → ssa.IsPublicThere (front (draft s) n) v → IsPublicThere (plain s) (take n s.values) v
+public-there : (s : Values) (n : ℕ) (v : Operand) → ssa.IsPublicThere (front (draft s) n) v → IsPublicThere (shape_of_values s) (take n s.values) v
 public-there s n (Secret k) there = absurd there
 public-there s n (Public k) there = there
 public-there s n (Block k) there = there
 
 -- what fits is wired
-pub fits-wired : (s : Values) (n : ℕ) (op : Op) → ssa.Fits (front (draft s) n) op → IsWired (plain s) (take n s.values) op
+pub fits-wired : (s : Values) (n : ℕ) (op : Op) → ssa.Fits (front (draft s) n) op → IsWired (shape_of_values s) (take n s.values) op
 fits-wired s n (Const value) fits = fits
 fits-wired s n (PubAdd left right) fits = (public-there s n left fits.0, public-there s n right fits.1)
 fits-wired s n (PubMul left right) fits = (public-there s n left fits.0, public-there s n right fits.1)
@@ -53,22 +55,6 @@ fits-wired s n (Map k arg) fits = (fits.0, shared-there s n arg fits.1)
 fits-wired s n (Mul left right) fits = (shared-there s n left fits.0, shared-there s n right fits.1)
 fits-wired s n (Refresh arg) fits = absurd fits
 
--- at most two operands are shared
-pub operands-short : (shape : Shape) (op : Op) → length (map (value_number shape) (shared_operands op)) ≤ 2
-operands-short shape (Const value) = omega arith
-operands-short shape (PubAdd left right) = omega arith
-operands-short shape (PubMul left right) = omega arith
-operands-short shape (PubSq arg) = omega arith
-operands-short shape (PubMap k arg) = omega arith
-operands-short shape (Lift arg) = omega arith
-operands-short shape (Add left right) = omega arith
-operands-short shape (AddPub left right) = omega arith
-operands-short shape (Scale left right) = omega arith
-operands-short shape (Sq arg) = omega arith
-operands-short shape (Map k arg) = omega arith
-operands-short shape (Mul left right) = omega arith
-operands-short shape (Refresh arg) = omega arith
-
 -- the number of each of some operands is below a bound
 numbers-below : (shape : Shape) (before : List Op) (n : ℕ) (vs : List Operand) (k v : ℕ) → length before ≤ n → AllByRecursion (IsSharedThere shape before) vs
     → slice_get (map (value_number shape) vs) k ≡ Some v → v < shape.secrets + shape.publics + n
@@ -80,16 +66,16 @@ numbers-below shape before n (w ∷ vs) (suc k) v long each there = numbers-belo
 
 module _ (s : Values) (is : IsValues s) where
   -- each value is wired
-  pub wired-value : (i : ℕ) (op : Op) → slice_get s.values i ≡ Some op → IsWired (plain s) (take i s.values) op
+  pub wired-value : (i : ℕ) (op : Op) → slice_get s.values i ≡ Some op → IsWired (shape_of_values s) (take i s.values) op
   wired-value i op there = fits-wired s i op (is.made.fit i op there)
 
   -- its shared operands come before it
-  pub operands-before : (i : ℕ) (op : Op) → slice_get s.values i ≡ Some op → AreOperands (inputs s + i) (shared_numbers s op)
+  pub operands-before : (i : ℕ) (op : Op) → slice_get s.values i ≡ Some op → AreOperands (inputs s + i) (shared_numbers (shape_of_values s) op)
   operands-before i op there =
       let within : i < length s.values = slice_get_within s.values i op there in
       record {
-        short = operands-short (plain s) op;
-        below = λ k v at. numbers-below (plain s) (take i s.values) i (shared_operands op) k v
+        short = operands-short (shape_of_values s) op;
+        below = λ k v at. numbers-below (shape_of_values s) (take i s.values) i (shared_operands op) k v
             (omega (arith, length-take-le i s.values (omega (arith, within))))
-            (wired-operands (plain s) (take i s.values) op (wired-value i op there)).0 at;
+            (wired-operands (shape_of_values s) (take i s.values) op (wired-value i op there)).0 at;
       }

@@ -8,12 +8,13 @@ use Rattle.mk_ssa.specs.declared.Operand.TheVariants.{Secret, Block}
 use Rattle.mk_ssa.specs.Kinds.{Strong}
 use Rattle.mk_ssa.specs.Values.{Values}
 use Rattle.mk_rules.specs.Claimed.{Claimed}
-use Rattle.mk_place.specs.Uses.{uses, uses_by, uses_from}
+use Rattle.mk_rules.proofs.Noting.{use_of}
+use Rattle.mk_rules.specs.Uses.{uses_by, uses_from}
+use Rattle.mk_place.specs.Uses.{uses}
 use Rattle.mk_place.specs.Layout.{Marks, laid_out, blocks_before, blocks_from}
 use Rattle.mk_place.specs.Needs.{needs_by, marks_by, joined}
 use Rattle.mk_place.specs.TakenOut.{without_refreshes}
 use Rattle.mk_place.specs.Refreshes.{HasOperand, IsUsedOnce, StandsBefore}
-use Rattle.mk_place.proofs.Taking.{use_of}
 
 -- the product of a secret with itself
 abbrev square : Values

@@ -7,9 +7,9 @@ use Rattle.mk_ssa.specs.declared.Operand.TheVariants.{Secret, Public, Block}
 use Rattle.mk_ssa.specs.declared.Op.{Op}
 use Rattle.mk_ssa.specs.declared.Op.TheVariants.{Refresh}
 use Rattle.mk_ssa.specs.Kinds.{shared_operands}
-use Rattle.mk_ssa.specs.Operators.{operands}
+use Rattle.mk_ssa.specs.Operators.{operands, with_operands_by}
 use Rattle.mk_place.specs.declared.marking.Fresh.{Fresh}
-use Rattle.mk_place.specs.Layout.{Marks, blocks_before, own_block, blocks_from, with_operands}
+use Rattle.mk_place.specs.Layout.{Marks, blocks_before, own_block, blocks_from}
 
 -- an operand by its new number
 abbrev pub named : List ℕ → Operand → Operand
@@ -49,7 +49,7 @@ with_refreshes names blocks op fresh =
 -- its own block
 abbrev pub own_of : List ℕ → List Op → Op → Fresh → Op
 own_of names blocks op fresh =
-    with_operands (pick (argument names (length blocks) (slice_get (shared_operands op) 0) fresh.first)
+    with_operands_by (pick (argument names (length blocks) (slice_get (shared_operands op) 0) fresh.first)
     (argument names (length (blocks ++ refreshes names (slice_get (shared_operands op) 0) fresh.first)) (slice_get (shared_operands op) 1) fresh.second))
     (named names) op
 

@@ -3,8 +3,9 @@ use Rattle.std.specs.Prelude.{ℕ, zero, suc, ◌+◌, Bool, true, false, List, 
 use Rattle.mk_ssa.specs.declared.Operand.{Operand}
 use Rattle.mk_ssa.specs.declared.Operand.TheVariants.{Secret, Public, Block}
 use Rattle.mk_ssa.specs.declared.Op.{Op}
-use Rattle.mk_ssa.specs.declared.Op.TheVariants.{Const, PubAdd, PubMul, PubSq, PubMap, Lift, Add, AddPub, Scale, Sq, Map, Mul, Refresh}
+use Rattle.mk_ssa.specs.declared.Op.TheVariants.{Refresh}
 use Rattle.mk_ssa.specs.Kinds.{shared_operands}
+use Rattle.mk_ssa.specs.Operators.{with_operands_by}
 use Rattle.mk_ssa.specs.Values.{Values}
 use Rattle.mk_rules.specs.Claimed.{Claimed}
 
@@ -41,22 +42,6 @@ renamed marks (Block k) = Block (own_block marks k)
 abbrev pub refreshed : Marks → ℕ → ℕ → Operand → Operand
 refreshed marks i k v = if marks i k then Block (refresh_block marks i k) else renamed marks v
 
--- an operator with other operands: shared ones by place, public ones, and the argument of a refresh
-abbrev pub with_operands : (ℕ → Operand → Operand) → (Operand → Operand) → Op → Op
-with_operands shared public (Const value) = Const value
-with_operands shared public (PubAdd left right) = PubAdd (public left) (public right)
-with_operands shared public (PubMul left right) = PubMul (public left) (public right)
-with_operands shared public (PubSq arg) = PubSq (public arg)
-with_operands shared public (PubMap map arg) = PubMap map (public arg)
-with_operands shared public (Lift arg) = Lift (public arg)
-with_operands shared public (Add left right) = Add (shared 0 left) (shared 1 right)
-with_operands shared public (AddPub left right) = AddPub (shared 0 left) (public right)
-with_operands shared public (Scale left right) = Scale (shared 0 left) (public right)
-with_operands shared public (Sq arg) = Sq (shared 0 arg)
-with_operands shared public (Map map arg) = Map map (shared 0 arg)
-with_operands shared public (Mul left right) = Mul (shared 0 left) (shared 1 right)
-with_operands shared public (Refresh arg) = Refresh (shared 0 arg)
-
 -- the refresh for the use by value i at place k, if it is marked
 abbrev pub refresh_at : Marks → ℕ → ℕ → Op → List Op
 refresh_at marks i k op = if marks i k then Refresh (renamed marks (slice_index_or (shared_operands op) k (Secret 0))) ∷ [] else []
@@ -64,7 +49,7 @@ refresh_at marks i k op = if marks i k then Refresh (renamed marks (slice_index_
 -- the blocks of value i: the refreshes for it, and then itself
 abbrev pub blocks_of : Marks → ℕ → Op → List Op
 blocks_of marks i op =
-    refresh_at marks i 0 op ++ refresh_at marks i 1 op ++ with_operands (refreshed marks i) (renamed marks) op ∷ []
+    refresh_at marks i 0 op ++ refresh_at marks i 1 op ++ with_operands_by (refreshed marks i) (renamed marks) op ∷ []
 
 -- the blocks of values, of which the first has the number i
 unfoldable pub blocks_from : Marks → ℕ → List Op → List Op

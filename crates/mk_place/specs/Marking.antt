@@ -1,102 +1,56 @@
 -- What the pass from the last value to the first holds. It serves the pass alone, and what the calls of the crate
 -- promise needs none of it.
-use Rattle.std.specs.Prelude.{◌≡◌, ◌↔◌, ◌⊎◌, ℕ, zero, suc, ◌+◌, ◌-◌, ◌*◌, ◌^◌, ◌<◌, ◌≤◌, Bool, true, false, Option, None, Some, List, []}
-use Rattle.std.specs.Prelude.{◌∷◌, ◌++◌, Contains, length, map, drop, nat_eq, slice_get, slice_index, slice_index_or, slice_set, if◌then◌else◌}
+use Rattle.std.specs.Prelude.{◌≡◌, ◌↔◌, ◌⊎◌, ℕ, zero, suc, ◌+◌, ◌-◌, ◌*◌, ◌^◌, ◌<◌, ◌≤◌, Bool, true, false, Some, List, []}
+use Rattle.std.specs.Prelude.{◌∷◌, Contains, length, slice_get, slice_index_or}
 use Rattle.mk_ssa.specs.declared.Op.{Op}
 use Rattle.mk_ssa.specs.declared.Op.TheVariants.{Const}
-use Rattle.mk_ssa.specs.Kinds.{Kind, Public, Linear, Strong, kind, shared_operands}
+use Rattle.mk_ssa.specs.Kinds.{kind}
+use Rattle.mk_ssa.specs.Operators.{Operator, operator}
 use Rattle.mk_ssa.specs.Values.{Values}
-use Rattle.mk_rules.specs.Tiles.{value_number}
-use Rattle.mk_rules.specs.Reaches.{links}
 use Rattle.mk_rules.specs.Rows.{HasBit}
-use Rattle.mk_place.specs.declared.need.Place.{Place}
+use Rattle.mk_rules.specs.declared.uses.OperandPlace.{OperandPlace}
+use Rattle.mk_rules.specs.Products.{AreNumbers, products_before}
+use Rattle.mk_rules.specs.Uses.{AreUsesAt, Use}
 use Rattle.mk_place.specs.declared.marking.Fresh.{Fresh}
-use Rattle.mk_place.specs.Uses.{Use, plain, uses, uses_from}
+use Rattle.mk_place.specs.Uses.{shape_of_values, uses}
 use Rattle.mk_place.specs.Layout.{Marks}
 use Rattle.mk_place.specs.Needs.{brought_by, needs_by, marks_by}
-
--- the numbers of the shared operands, by place
-abbrev pub shared_numbers : Values → Op → List ℕ
-shared_numbers s op = map (value_number (plain s)) (shared_operands op)
 
 -- how many inputs there are
 abbrev pub inputs : Values → ℕ
 inputs s = s.secrets + s.publics
 
--- the uses by value i and those behind it
-abbrev pub uses_behind : Values → ℕ → List Use
-uses_behind s i = uses_from i (drop i (links (plain s) s.values))
-
--- where a use stands
-abbrev pub place_of_use : Use → Place
-place_of_use u = record { value = u.value; operand = u.place }
-
--- where a value is used, the last use first
-unfoldable pub last_first : ℕ → List Use → List Place
-last_first v [] = []
-last_first v (u ∷ us) = if nat_eq u.operand v then last_first v us ++ place_of_use u ∷ [] else last_first v us
-
--- a use is noted
-abbrev pub IsNoted : List (List Place) → Option ℕ → Place → List (List Place) → Type 0
-IsNoted noted None place after = after ≡ noted
-IsNoted noted (Some v) place after = after ≡ slice_set noted v (slice_index_or noted v [] ++ place ∷ [])
-
--- the list has these uses by the number of the value that is used
-pub record AreUses (len : ℕ) (us : List Use) (noted : List (List Place)) : Type 0 where
-  pub count : length noted ≡ len
-  pub each : (v : ℕ) → v < len → slice_index_or noted v [] ≡ last_first v us
-
--- the uses by value i and those behind it
-abbrev pub AreUsesAt : Values → ℕ → List (List Place) → Type 0
-AreUsesAt s i noted = AreUses (inputs s + length s.values) (uses_behind s i) noted
-
--- 1 for a product
-abbrev pub one_product : Kind → ℕ
-one_product Public = 0
-one_product Linear = 0
-one_product Strong = 1
-
--- how many products stand before value i
-unfoldable pub products_before : List Op → ℕ → ℕ
-products_before ops zero = 0
-products_before [] (suc i) = 0
-products_before (op ∷ ops) (suc i) = one_product (kind op) + products_before ops i
-
--- these are the numbers of products before each value, and before the end
-abbrev pub AreNumbers : List Op → List ℕ → Type 0
-AreNumbers ops numbers = (i : ℕ) → i ≤ length ops → slice_index numbers i ≡ products_before ops i
-
 -- the bit for a place: 2r and 2r + 1 are those of product r
-abbrev pub bit_of : List Op → Place → ℕ
+abbrev pub bit_of : List Op → OperandPlace → ℕ
 bit_of ops p = 2 * products_before ops p.value + p.operand
 
 -- a place of one of these products
-pub record IsPlace (ops : List Op) (p : Place) : Type 0 where
+pub record IsPlace (ops : List Op) (p : OperandPlace) : Type 0 where
   pub op : Op
   pub there : slice_get ops p.value ≡ Some op
-  pub strong : kind op ≡ Strong
+  pub product : operator op ≡ Operator.Mul
   pub two : p.operand < 2
 
 -- the row stands for the need: exactly the bits for its places are set. These are places of products, one of each
-pub record IsNeed (ops : List Op) (need : List Place) (row : List ℕ) : Type 0 where
-  pub bits : (k : ℕ) → HasBit row k ↔ ((p : Place) × Contains need p × (bit_of ops p ≡ k))
-  pub places : (p : Place) → Contains need p → IsPlace ops p
-  pub alone : (p q : Place) → Contains need p → Contains need q → p.value ≡ q.value → p.operand ≡ q.operand
+pub record IsNeed (ops : List Op) (need : List OperandPlace) (row : List ℕ) : Type 0 where
+  pub bits : (k : ℕ) → HasBit row k ↔ ((p : OperandPlace) × Contains need p × (bit_of ops p ≡ k))
+  pub places : (p : OperandPlace) → Contains need p → IsPlace ops p
+  pub alone : (p q : OperandPlace) → Contains need p → Contains need q → p.value ≡ q.value → p.operand ≡ q.operand
 
 -- this holds of each need for which the row stands
-abbrev pub OfNeeds : List Op → List ℕ → (List Place → Type 0) → Type 0
-OfNeeds ops row P = (need : List Place) → IsNeed ops need row → P need
+abbrev pub OfNeeds : List Op → List ℕ → (List OperandPlace → Type 0) → Type 0
+OfNeeds ops row P = (need : List OperandPlace) → IsNeed ops need row → P need
 
 -- the row has these bits too, unless they clash
 abbrev pub IsTaken : List ℕ → Type 0 → (ℕ → Type 0) → List ℕ → Type 0
 IsTaken row Clashes Brings after = (k : ℕ) → HasBit after k ↔ (HasBit row k ⊎ ((Clashes → ⊥) × Brings k))
 
 -- the need of a value by all uses
-abbrev pub final_need : Values → ℕ → List Place
+abbrev pub final_need : Values → ℕ → List OperandPlace
 final_need s v = needs_by (inputs s) (uses s) v
 
 -- what a use at this place brings
-abbrev pub brings : Values → Place → List Place
+abbrev pub brings : Values → OperandPlace → List OperandPlace
 brings s p = brought_by (kind (slice_index_or s.values p.value (Const 0))) (p ∷ []) (final_need s (inputs s + p.value))
 
 -- there is a row for value i, the last value having the first one
@@ -110,8 +64,8 @@ abbrev pub HasRows : Values → List (List ℕ) → ℕ → ℕ → Type 0
 HasRows s rows words n = (i : ℕ) → n ≤ i → i < length s.values → HasRow s rows words i
 
 -- what the pass goes by: the uses, how many products stand before each value, and words enough for two bits each
-pub record IsIndex (s : Values) (noted : List (List Place)) (numbers : List ℕ) (words : ℕ) : Type 0 where
-  pub noted_all : AreUsesAt s 0 noted
+pub record IsIndex (s : Values) (noted : List (List OperandPlace)) (numbers : List ℕ) (words : ℕ) : Type 0 where
+  pub noted_all : AreUsesAt (shape_of_values s) s.values 0 noted
   pub count : length numbers ≡ length s.values + 1
   pub each : AreNumbers s.values numbers
   pub room : 2 * products_before s.values (length s.values) ≤ 64 * words
@@ -136,7 +90,7 @@ abbrev pub IsMarked : List Fresh → ℕ → ℕ → Type 0
 IsMarked fresh i k = mark_in (slice_index_or fresh i unmarked) k ≡ true
 
 -- this is the use by value i at place k
-abbrev pub IsAt : Place → ℕ → ℕ → Type 0
+abbrev pub IsAt : OperandPlace → ℕ → ℕ → Type 0
 IsAt p i k = (i ≡ p.value) × (k ≡ p.operand)
 
 -- these uses are marked, too

@@ -5,7 +5,8 @@ use Rattle.mk_ssa.specs.Kinds.{Linear, Strong}
 use Rattle.mk_ssa.specs.Values.{Values}
 use Rattle.mk_rules.specs.Claimed.{Claimed}
 use Rattle.mk_rules.specs.Reaches.{Link, Reaches, links}
-use Rattle.mk_place.specs.Uses.{Use, plain, uses}
+use Rattle.mk_rules.specs.Uses.{Use}
+use Rattle.mk_place.specs.Uses.{shape_of_values, uses}
 use Rattle.mk_place.specs.Layout.{Marks, own_block, laid_out}
 
 -- a use brings place k of the product m: it is that operand, or it is by a linear value whose block reaches
@@ -36,4 +37,4 @@ pub record Placed (s : Values) (cert : Claimed) : Type 0 where
   pub used : (i k : ℕ) → marks i k ≡ true → (u : Use) × Contains (uses s) u × (u.value ≡ i) × (u.place ≡ k)
   pub needed : (front behind : List Use) (u : Use) → uses s ≡ front ++ u ∷ behind
       → (marks u.value u.place ≡ true)
-      ↔ NeedsRefresh (s.secrets + s.publics) (links (plain s) cert.blocks) marks u behind
+      ↔ NeedsRefresh (s.secrets + s.publics) (links (shape_of_values s) cert.blocks) marks u behind

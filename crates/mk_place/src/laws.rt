@@ -5,7 +5,7 @@ ghost use Rattle.mk_ssa.specs.Values.{Values, IsValues};
 ghost use Rattle.mk_simplify.specs.Simplified.{AllDiffer};
 ghost use Rattle.mk_rules.specs.Claimed.{Claimed};
 ghost use Rattle.mk_rules.specs.Wired.{IsSharedThere};
-ghost use Rattle.mk_place.specs.Uses.{plain};
+ghost use Rattle.mk_place.specs.Uses.{shape_of_values};
 ghost use Rattle.mk_place.specs.Layout.{Marks, laid_out};
 ghost use Rattle.mk_place.specs.Placed.{Placed};
 ghost use Rattle.mk_place.specs.Different.{AllDifferButRefreshes};
@@ -27,7 +27,7 @@ pub fn placement_law()
         → without_refreshes cert ≡ record { blocks = s.values; claims = s.outs } }
     ensures used_once { (s : Values) (cert : Claimed) (r : ℕ) (v : Operand) → IsValues s → Placed s cert
         → slice_get cert.blocks r ≡ Some (Refresh v)
-        → IsSharedThere (plain s) (take r cert.blocks) v × IsUsedOnce cert r }
+        → IsSharedThere (shape_of_values s) (take r cert.blocks) v × IsUsedOnce cert r }
     ensures stands { (s : Values) (cert : Claimed) (r b k : ℕ) (v : Operand) → IsValues s → Placed s cert
         → slice_get cert.blocks r ≡ Some (Refresh v) → HasOperand cert.blocks b k r
         → StandsBefore cert.blocks r b k }

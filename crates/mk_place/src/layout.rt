@@ -2,7 +2,8 @@
 
 ghost use Rattle.std.specs.Prelude.{◌≡◌, ◌+◌, ◌∷◌, ◌++◌, [], length, map, All, slice_get, IfOk, OnOk, IfSome};
 ghost use Rattle.mk_ssa.specs.Values.{IsValues};
-ghost use Rattle.mk_place.specs.Layout.{with_operands, laid_out as laid_out_by};
+ghost use Rattle.mk_ssa.specs.Operators.{with_operands_by};
+ghost use Rattle.mk_place.specs.Layout.{laid_out as laid_out_by};
 ghost use Rattle.mk_place.specs.Marking.{AreMarks, all_marks};
 ghost use Rattle.mk_place.specs.Laying.{named, HasName, HasNames, argument, refreshes, pick, with_refreshes, own_of, IsLaid};
 
@@ -53,7 +54,7 @@ fn refreshed(
 /// An operator with these shared operands, and its public operands by their new numbers.
 fn fitted(names: &[u32], op: Op, first: Operand, second: Operand) -> Op
     requires { HasNames names.now op }
-    ensures { result ≡ with_operands (pick first second) (named names.now) op }
+    ensures { result ≡ with_operands_by (pick first second) (named names.now) op }
 {
     op.with_operands(|operand| renamed(names, operand))
         .with_shared_operands(first, second)

@@ -6,7 +6,6 @@ mod laws;
 mod layout;
 mod marking;
 mod need;
-mod operands;
 mod placement;
 
 pub use laws::{different_law, placement_law};

@@ -1,13 +1,13 @@
 //! Which uses need a refresh, from the last value to the first.
 
-ghost use Rattle.std.specs.Prelude.{◌≡◌, ◌<◌, ◌+◌, ◌-◌, ℕ, [], length, slice_index_or, IfOk, OnOk, IfSome};
+ghost use Rattle.std.specs.Prelude.{◌≡◌, ◌<◌, ◌+◌, ◌-◌, length, IfOk, OnOk};
 ghost use Rattle.mk_ssa.specs.Values.{IsValues};
-ghost use Rattle.mk_place.specs.Marking.{AreUsesAt, IsNoted, IsIndex, HasRows, IsNeed, IsAt, IsDue, AreMarkedToo};
+ghost use Rattle.mk_place.specs.Marking.{IsIndex, HasRows, IsNeed, IsAt, IsDue, AreMarkedToo};
 ghost use Rattle.mk_place.specs.Marking.{AreMarks, inputs, final_need};
 
-use crate::need::{Place, product_numbers, take};
-use crate::operands::shared_numbers;
+use crate::need::take;
 use mk_base::{Items, Memory};
+use mk_rules::{OperandPlace, product_numbers, uses_of};
 use mk_ssa::Ssa;
 use std::alloc::Global;
 
@@ -22,70 +22,19 @@ pub(crate) struct Fresh {
 /// how many words a row has.
 #[derive(Drop)]
 struct Index {
-    uses: Vec<Items<Place>>,
+    uses: Vec<Items<OperandPlace>>,
     numbers: Vec<u32>,
     words: usize,
-}
-
-/// So many values, of which no use is noted yet.
-fn no_uses(alloc: Global, len: usize) -> Result<Vec<Items<Place>>, Memory>
-    ensures count { IfOk result (λ noted. length noted.items ≡ len) }
-    ensures none { IfOk result (λ noted. (v : ℕ) → slice_index_or noted.items v [] ≡ []) }
-{
-    let mut noted = Vec::new(alloc);
-    for _ in 0..len {
-        noted.push(Items::new(alloc))?;
-    }
-    Ok(noted)
-}
-
-/// Notes a use of the value with this number, if there is one.
-fn note(noted: &mut Vec<Items<Place>>, operand: Option<usize>, place: Place) -> Result<(), Memory>
-    requires { IfSome operand (λ v. v < length noted.old.items) }
-    ensures { OnOk result (IsNoted noted.old.items operand place noted.new.items) }
-{
-    match operand {
-        Some(v) => noted[v].push(place),
-        None => Ok(()),
-    }
-}
-
-/// The uses of each value, the last use first.
-fn uses_of(alloc: Global, s: &Ssa) -> Result<Vec<Items<Place>>, Memory>
-    ensures { IfOk result (λ noted. AreUsesAt s.now 0 noted.items) }
-{
-    let len = s.values().len();
-    let mut noted = no_uses(alloc, s.secrets() as usize + s.publics() as usize + len)?;
-    for done in 0..len {
-        let at = (len - 1 - done) as u32;
-        let (left, right) = shared_numbers(s, s.values().as_slice()[at as usize]);
-        note(
-            &mut noted,
-            right,
-            Place {
-                value: at,
-                operand: 1,
-            },
-        )?;
-        note(
-            &mut noted,
-            left,
-            Place {
-                value: at,
-                operand: 0,
-            },
-        )?;
-    }
-    Ok(noted)
 }
 
 /// What the pass goes by.
 fn make_index(alloc: Global, s: &Ssa) -> Result<Index, Memory>
     ensures { IfOk result (λ index. IsIndex s.now index.uses.items index.numbers.items index.words) }
 {
-    let uses = uses_of(alloc, s)?;
-    let numbers = product_numbers(alloc, s.values().as_slice())?;
-    let words = (numbers[s.values().len()] as usize + 31) / 32;
+    let ops = s.values().as_slice();
+    let uses = uses_of(alloc, s.secrets(), s.publics(), ops)?;
+    let numbers = product_numbers(alloc, ops)?;
+    let words = (numbers[ops.len()] as usize + 31) / 32;
     Ok(Index {
         uses,
         numbers,
@@ -94,7 +43,7 @@ fn make_index(alloc: Global, s: &Ssa) -> Result<Index, Memory>
 }
 
 /// Marks a use.
-fn mark(fresh: &mut [Fresh], place: Place)
+fn mark(fresh: &mut [Fresh], place: OperandPlace)
     requires there { place.value < length fresh.old }
     requires two { place.operand < 2 }
     ensures count { length fresh.new ≡ length fresh.old }

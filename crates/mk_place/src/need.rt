@@ -1,47 +1,14 @@
 //! The need of a value: the places of products that it reaches through no refresh, as a row of bits.
 
-ghost use Rattle.std.specs.Prelude.{◌≡◌, ◌+◌, ◌-◌, ◌*◌, ◌<◌, ◌≤◌, ◌^◌, length, IfOk, IsTrue, ◌↔◌};
-ghost use Rattle.mk_ssa.specs.Kinds.{Strong, kind};
+ghost use Rattle.std.specs.Prelude.{◌≡◌, ◌+◌, ◌*◌, ◌<◌, ◌≤◌, length, IsTrue, ◌↔◌};
+ghost use Rattle.mk_rules.specs.Products.{AreNumbers, products_before};
 ghost use Rattle.mk_rules.specs.Rows.{HasBit, Clash};
 ghost use Rattle.mk_place.specs.Needs.{clash, added};
-ghost use Rattle.mk_place.specs.Marking.{AreNumbers, IsNeed, OfNeeds, IsTaken, HasRow, brings, products_before};
+ghost use Rattle.mk_place.specs.Marking.{IsNeed, OfNeeds, IsTaken, HasRow, brings};
 
-use mk_base::{Items, Memory};
-use mk_rules::{has_bit, join_rows, rows_clash, set_bit};
-use mk_ssa::{Op, Ssa};
-use std::alloc::Global;
-
-/// A place of a product: its number among the values, and which operand. Any use of a value is told by it, too.
-#[derive(Clone, Copy, Debug, PartialEq, Eq)]
-pub(crate) struct Place {
-    pub value: u32,
-    pub operand: u8,
-}
-
-/// Whether an operator is a product, by what is seen of it: one behind which as few shares are seen as are probed.
-fn is_product(op: Op) -> bool
-    ensures { IsTrue result ↔ (kind op ≡ Strong) }
-{
-    matches!(op, Op::Mul { .. } | Op::Refresh { .. })
-}
-
-/// How many products stand before each value, and before the end.
-pub(crate) fn product_numbers(alloc: Global, ops: &[Op]) -> Result<Vec<u32>, Memory>
-    requires { length ops.now < 2 ^ 32 }
-    ensures count { IfOk result (λ numbers. length numbers.items ≡ length ops.now + 1) }
-    ensures each { IfOk result (λ numbers. AreNumbers ops.now numbers.items) }
-{
-    let mut numbers = Vec::with_capacity(alloc, ops.len() + 1)?;
-    let mut count = 0;
-    for at in 0..ops.len() {
-        numbers.push(count)?;
-        if is_product(ops[at]) {
-            count += 1;
-        }
-    }
-    numbers.push(count)?;
-    Ok(numbers)
-}
+use mk_base::Items;
+use mk_rules::{OperandPlace, has_bit, is_product, join_rows, rows_clash, set_bit};
+use mk_ssa::Ssa;
 
 /// Takes a place to a row, unless the product's other place is there; answers whether it is.
 fn take_place(row: &mut [u64], own: usize, other: usize) -> bool
@@ -79,7 +46,7 @@ pub(crate) fn take(
     s: &Ssa,
     numbers: &[u32],
     rows: &[Items<u64>],
-    place: Place,
+    place: OperandPlace,
 ) -> bool
     requires there { place.value < length s.now.values }
     requires two { place.operand < 2 }

@@ -1,7 +1,8 @@
 pub mod Ascending
-pub mod Appended
-pub mod Merged
-pub mod Passed
+pub mod Bits
+pub mod Stepping
+pub mod Listed
+pub mod Turning
 pub mod Telling
 pub mod Texts
 mod Worked

@@ -7,14 +7,14 @@ use Rattle.mk_ssa.specs.declared.Op.{Op}
 use Rattle.mk_ssa.proofs.Lists.{slice_get-more, slice_get-last, IsSomeAnd-value}
 use Rattle.mk_rules.specs.Shape.{Shape}
 use Rattle.mk_rules.specs.Wired.{Wired}
-use Rattle.mk_report.specs.declared.need.Place.{Place}
+use Rattle.mk_report.specs.declared.need.ProductPlace.{ProductPlace}
 use Rattle.mk_report.specs.declared.need.Told.{Told}
 use Rattle.mk_report.specs.Reached.{ArePlacesOf}
 use Rattle.mk_report.specs.Passing.{IsTold, AreTold, TellsOf}
-use Rattle.mk_report.proofs.Passed.{reached-past}
+use Rattle.mk_report.proofs.Stepping.{reached-past}
 
 -- what is told of a value stands at its place from the end
-pub told-at : (places : ℕ → List Place) (told : List Told) (v i : ℕ) (x : Told) → AreTold places told → v < length told → i ≡ length told - suc v
+pub told-at : (places : ℕ → List ProductPlace) (told : List Told) (v i : ℕ) (x : Told) → AreTold places told → v < length told → i ≡ length told - suc v
     → x ≡ get_or told i x → IsTold (places v) x
 told-at places told v i x are within at is =
     let found : (y : Told) × (slice_get told (length told - suc v) ≡ Some y) × IsTold (places v) y =
@@ -29,7 +29,7 @@ module _ (shape : Shape) (blocks : List Op) where
 
   -- this is told of the places of products that the value reaches
   pub record IsToldOf (v : ℕ) (x : Told) : Type 0 where
-    pub places : List Place
+    pub places : List ProductPlace
     pub are : ArePlacesOf shape blocks v places
     pub is : IsTold places x
 
@@ -43,7 +43,7 @@ module _ (shape : Shape) (blocks : List Op) where
   told-none n last = record { long = omega (arith, last); each = λ v from below. absurd (omega (arith, last, from, below)) }
 
   -- one value more
-  pub told-more : (n m : ℕ) (told : List Told) (x : Told) (places : List Place) → m ≡ n + 1 → AreToldFrom m told → ArePlacesOf shape blocks n places
+  pub told-more : (n m : ℕ) (told : List Told) (x : Told) (places : List ProductPlace) → m ≡ n + 1 → AreToldFrom m told → ArePlacesOf shape blocks n places
       → IsTold places x → AreToldFrom n (told ++ x ∷ [])
   told-more n m told x places next told_are places_are is = record {
     long = omega (arith, length-append told (x ∷ []), told_are.long, next);
@@ -66,7 +66,7 @@ module _ (shape : Shape) (blocks : List Op) where
     told_there v below = told_are.each v (omega arith) below
 
     -- the places of a value that is there or not
-    abbrev places_by : (v : ℕ) → (v < total) ⊎ (total ≤ v) → List Place
+    abbrev places_by : (v : ℕ) → (v < total) ⊎ (total ≤ v) → List ProductPlace
     places_by v (inl below) = (told_there v below).2.places
     places_by v (inr past) = []
 

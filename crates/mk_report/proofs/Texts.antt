@@ -21,16 +21,17 @@ use Rattle.mk_gadget.specs.Refresh.{refresh_gadget}
 use Rattle.mk_share.proofs.Banks.{range-more}
 use Rattle.mk_rules.specs.Shape.{Shape, shape_of}
 use Rattle.mk_rules.specs.Claimed.{Claimed}
-use Rattle.mk_rules.specs.Tiles.{laid, reads, value_number, input_banks, first_place}
+use Rattle.mk_rules.specs.Tiles.{laid, reads, value_number, input_banks, first_position}
 use Rattle.mk_rules.specs.Wired.{IsSharedThere, Wired}
 use Rattle.mk_rules.specs.Accepts.{IsAccepted}
 use Rattle.mk_rules.proofs.Doubled.{HasValue, reaches-there}
 use Rattle.mk_lines.specs.CertLines.{argument_words}
 use Rattle.mk_lines.specs.Words.{line, operand_word}
-use Rattle.mk_report.specs.declared.need.Place.{Place}
+use Rattle.mk_rules.proofs.Probes.{Contains-front}
+use Rattle.mk_report.specs.declared.need.ProductPlace.{ProductPlace}
 use Rattle.mk_report.specs.Reached.{ReachesPlace, ArePlacesOf}
 use Rattle.mk_report.specs.Report.{IsReport, instrs_of, randoms_of, need_words, secret_line, block_line, total_line, NamesKind}
-use Rattle.mk_report.proofs.Ascending.{in-front, ascending-same}
+use Rattle.mk_report.proofs.Ascending.{ascending-same}
 
 -- one line more
 pub line-more : {X : Type 0} (f : X → List ℕ) (xs ys : List X) (x : X) (start now after : List ℕ) → ys ≡ xs ++ x ∷ []
@@ -67,7 +68,7 @@ flat_map-same f g (x ∷ xs) same =
     ∙ sym (flat_map-cons g x xs)
 
 -- a value has its places alone
-places-one : (shape : Shape) (blocks : List Op) (v : ℕ) (ps qs : List Place) → ArePlacesOf shape blocks v ps → ArePlacesOf shape blocks v qs → ps ≡ qs
+places-one : (shape : Shape) (blocks : List Op) (v : ℕ) (ps qs : List ProductPlace) → ArePlacesOf shape blocks v ps → ArePlacesOf shape blocks v qs → ps ≡ qs
 places-one shape blocks v ps qs first second =
     ascending-same ps qs first.ascending second.ascending
     (λ p held. (second.reached p).1 ((first.reached p).0 held))
@@ -108,7 +109,7 @@ five-behind a b c d e f =
     ∙ append_assoc a (b ++ c ++ d ++ e) f
 
 -- the kinds are the words of the bundle text
-pub kind-of-line : (order k : ℕ) (op : Op) (places : List Place) → NamesKind order k op places
+pub kind-of-line : (order k : ℕ) (op : Op) (places : List ProductPlace) → NamesKind order k op places
 kind-of-line order k op places = record {
   kind = operator_word op;
   rest = decimal (instrs_of order op) ++ codes " " ++ decimal (randoms_of order op) ++ codes " " ++ need_words places;
@@ -131,11 +132,11 @@ block-shared shape blocks k op (Block i) there is at known =
     both_ways (is_public op) off known
 
 -- a public block reaches nothing
-pub public-none : (shape : Shape) (blocks : List Op) (k : ℕ) (op : Op) (places : List Place) → Wired shape blocks → slice_get blocks k ≡ Some op
+pub public-none : (shape : Shape) (blocks : List Op) (k : ℕ) (op : Op) (places : List ProductPlace) → Wired shape blocks → slice_get blocks k ≡ Some op
     → is_public op ≡ true → ArePlacesOf shape blocks (shape.secrets + shape.publics + k) places → places ≡ []
 public-none shape blocks k op [] wired at known are = refl
 public-none shape blocks k op (p ∷ ps) wired at known are =
-    let reaches : ReachesPlace shape blocks (shape.secrets + shape.publics + k) p = (are.reached p).0 (in-front p ps p refl) in
+    let reaches : ReachesPlace shape blocks (shape.secrets + shape.publics + k) p = (are.reached p).0 (Contains-front p ps) in
     let value : HasValue shape blocks (shape.secrets + shape.publics + k) =
     reaches-there shape blocks wired (shape.secrets + shape.publics + k) p.block p.operand reaches.1 in
     absurd (block-shared shape blocks k op value.value value.there value.is at known)
@@ -163,4 +164,4 @@ laid-length shape banks base (op ∷ ops) =
 -- so the instructions of the blocks are those of the code
 pub total-is : (code : Listing) (cert : Claimed) → IsAccepted code cert → sum_by (instrs_of code.order) cert.blocks ≡ length code.instrs
 total-is code cert accepted =
-    sym (ap (λ (is : List _). length is) accepted.tiles ∙ laid-length (shape_of code) (input_banks (shape_of code)) (first_place (shape_of code)) cert.blocks)
+    sym (ap (λ (is : List _). length is) accepted.tiles ∙ laid-length (shape_of code) (input_banks (shape_of code)) (first_position (shape_of code)) cert.blocks)

@@ -8,7 +8,8 @@ use Rattle.mk_ssa.specs.declared.Operand.TheVariants.{Secret, Block}
 use Rattle.mk_gadget.specs.Pairs.{pairs_upto, others}
 use Rattle.mk_gadget.specs.Refresh.{refresh_sum}
 use Rattle.mk_report.specs.Report.{secret_line, block_line, total_line}
-use Rattle.mk_report.proofs.Passed.{place_of}
+use Rattle.mk_report.specs.Rows.{places_in}
+use Rattle.mk_report.proofs.Stepping.{place_of}
 
 -- a refresh of the secret
 abbrev refresh : Op
@@ -37,3 +38,7 @@ second = refl
 pub total : total_line 1 (refresh ∷ product ∷ []) ≡ codes "total 2 12 2\n"
 unfolding digits randoms pairs_upto others refresh_sum
 total = refl
+
+-- where blocks 2 and 5 are the products, bits 1 and 2 are for the second place of the one and the first of the other
+pub places : places_in (2 ∷ 5 ∷ []) (6 ∷ []) ≡ place_of 2 1 ∷ place_of 5 0 ∷ []
+places = refl

@@ -1,3 +1,4 @@
 pub mod Reached
 pub mod Report
+pub mod Rows
 pub mod Passing

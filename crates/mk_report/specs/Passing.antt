@@ -1,64 +1,92 @@
--- What the pass from the last block to the first does: each block passes places on to its operands, and
--- then it is told how many places its own value reaches, and which are the first. What the calls of the crate
+-- What the pass from the last value to the first does: the row of a value is made of what its uses bring, and
+-- then it is told how many places the value reaches, and which are the first. What the calls of the crate
 -- promise needs none of it.
-use Rattle.std.specs.Prelude.{◌≡◌, true, ◌↔◌, ◌⊎◌, ℕ, suc, ◌-◌, ◌<◌, Option, None, Some, IsSomeAnd, List, [], ◌∷◌, length, take, map, Contains, slice_get, slice_index_or, slice_set}
-use Rattle.mk_ssa.specs.declared.Operand.{Operand}
+use Rattle.std.specs.Prelude.{◌≡◌, ◌↔◌, ◌⊎◌, ℕ, suc, ◌+◌, ◌-◌, ◌*◌, ◌^◌, ◌<◌, ◌≤◌, Bool, true, false, IsSomeAnd, List, [], length, take, Contains, slice_get, slice_index_or}
 use Rattle.mk_ssa.specs.declared.Op.{Op}
-use Rattle.mk_ssa.specs.declared.Op.TheVariants.{Mul, Refresh}
-use Rattle.mk_ssa.specs.Kinds.{shared_operands}
+use Rattle.mk_ssa.specs.declared.Op.TheVariants.{Const, Add, AddPub, Scale, Sq, Map}
+use Rattle.mk_ssa.specs.Operators.{Operator, operator}
+use Rattle.mk_rules.specs.declared.uses.OperandPlace.{OperandPlace}
 use Rattle.mk_rules.specs.Shape.{Shape}
-use Rattle.mk_rules.specs.Tiles.{value_number}
-use Rattle.mk_report.specs.declared.need.Place.{Place}
+use Rattle.mk_rules.specs.Products.{AreNumbers, products_before}
+use Rattle.mk_rules.specs.Rows.{HasBit}
+use Rattle.mk_rules.specs.Uses.{AreUsesAt, shared_numbers}
+use Rattle.mk_report.specs.declared.need.ProductPlace.{ProductPlace}
 use Rattle.mk_report.specs.declared.need.Told.{Told}
-use Rattle.mk_report.specs.Reached.{is_before, AreAscending, ArePlacesOf}
+use Rattle.mk_report.specs.Reached.{ArePlacesOf}
+use Rattle.mk_report.specs.Rows.{AreProducts, IsRowOf}
 
--- the operands to which a block passes places on, by place: none of a refresh
-abbrev pub passed_to : Op → List Operand
-passed_to (Refresh arg) = []
-passed_to op = shared_operands op
+-- whether a block passes the places of its value on: it is linear, and has shared operands
+abbrev pub passes : Op → Bool
+passes (Add left right) = true
+passes (AddPub left right) = true
+passes (Scale left right) = true
+passes (Sq arg) = true
+passes (Map map arg) = true
+passes op = false
 
--- what it passes on to an operand: a product that place of its own, another block the places of its value
-abbrev pub brought : Op → List Place → List Place → List Place
-brought (Mul left right) own here = here
-brought op own here = own
+-- the block with this number
+abbrev pub block_at : List Op → ℕ → Op
+block_at blocks b = slice_index_or blocks b (Const 0)
 
--- each place of the first list comes before those of the second
-abbrev pub AllBefore : List Place → List Place → Type 0
-AllBefore ps qs = (p q : Place) → Contains ps p → Contains qs q → is_before p q ≡ true
+-- the row of block b, that of the last block being the first one
+abbrev pub row_at : List Op → List (List ℕ) → ℕ → List ℕ
+row_at blocks rows b = slice_index_or rows (length blocks - suc b) []
 
--- these are the places of both lists, in order
-pub record AreBoth (left right both : List Place) : Type 0 where
-  pub places : (p : Place) → Contains both p ↔ (Contains left p ⊎ Contains right p)
-  pub ascending : AreAscending both
+-- a use brings bit k: a product that of its place, a block that passes places on those of its row
+abbrev pub Brings : List Op → List (List ℕ) → OperandPlace → ℕ → Type 0
+Brings blocks rows u k =
+    ((operator (block_at blocks u.value) ≡ Operator.Mul) × (k ≡ 2 * products_before blocks u.value + u.operand))
+    ⊎ ((passes (block_at blocks u.value) ≡ true) × HasBit (row_at blocks rows u.value) k)
 
--- of each value the places are in order
-abbrev pub AllAscending : List (List Place) → Type 0
-AllAscending table = (v : ℕ) → AreAscending (slice_index_or table v [])
+-- a use is by a block that is there, and that has one of the rows
+abbrev pub IsBehind : List Op → List (List ℕ) → OperandPlace → Type 0
+IsBehind blocks rows u = (u.value < length blocks) × (length blocks - suc u.value < length rows)
 
--- the table in which this value, if there is one, has these places too
-unfoldable pub IsBrought : List (List Place) → Option ℕ → List Place → List (List Place) → Type 0
-IsBrought table None places after = after ≡ table
-IsBrought table (Some v) places after =
-    (both : List Place) × AreBoth (slice_index_or table v []) places both × (after ≡ slice_set table v both)
+-- it is as one of two operands, and the row has so many words if the block passes places on
+pub record IsReady (blocks : List Op) (rows : List (List ℕ)) (words : ℕ) (u : OperandPlace) : Type 0 where
+  pub behind : IsBehind blocks rows u
+  pub two : u.operand < 2
+  pub count : passes (block_at blocks u.value) ≡ true → length (row_at blocks rows u.value) ≡ words
 
--- the table in which the operands of the block with this number, whose value reaches these places, have what
--- it passes on: first the second operand, then the first
-unfoldable pub IsPassedOn : Shape → ℕ → Op → List Place → List (List Place) → List (List Place) → Type 0
-IsPassedOn shape k op own table after =
-    (between : List (List Place))
-    × IsBrought table (slice_get (map (value_number shape) (passed_to op)) 1) (brought op own (record { block = k; operand = 1 } ∷ [])) between
-    × IsBrought between (slice_get (map (value_number shape) (passed_to op)) 0) (brought op own (record { block = k; operand = 0 } ∷ [])) after
+-- the row has exactly the bits that these uses bring
+abbrev pub IsGathered : List Op → List (List ℕ) → List OperandPlace → List ℕ → Type 0
+IsGathered blocks rows us row = (k : ℕ) → HasBit row k ↔ ((u : OperandPlace) × Contains us u × Brings blocks rows u k)
+
+-- the block has a shared operand before the value with this number
+abbrev pub HasEarlier : Shape → Op → ℕ → Type 0
+HasEarlier shape op number = (v : ℕ) × Contains (shared_numbers shape op) v × (v < number)
+
+-- there is a row for block b, which stands for the places that its value reaches
+pub record HasRow (shape : Shape) (blocks : List Op) (rows : List (List ℕ)) (words b : ℕ) : Type 0 where
+  pub count : length (row_at blocks rows b) ≡ words
+  pub is : IsRowOf shape blocks (shape.secrets + shape.publics + b) (row_at blocks rows b)
+
+-- there is one for each block that has to pass it on to a value before value n
+abbrev pub HasRows : Shape → List Op → List (List ℕ) → ℕ → ℕ → Type 0
+HasRows shape blocks rows words n =
+    (b : ℕ) → n ≤ shape.secrets + shape.publics + b → b < length blocks → passes (block_at blocks b) ≡ true → HasEarlier shape (block_at blocks b) n
+    → HasRow shape blocks rows words b
+
+-- what the pass goes by: the uses, how many products stand before each block, the blocks of the products, and
+-- words enough for two bits each
+pub record IsIndex (shape : Shape) (blocks : List Op) (noted : List (List OperandPlace)) (numbers products : List ℕ) (words : ℕ) : Type 0 where
+  pub noted_all : AreUsesAt shape blocks 0 noted
+  pub count : length numbers ≡ length blocks + 1
+  pub each : AreNumbers blocks numbers
+  pub all : AreProducts blocks products
+  pub room : 2 * products_before blocks (length blocks) ≤ 64 * words
+  pub small : words < 2 ^ 32
 
 -- how many places there are, and the first eight of them
-abbrev pub IsTold : List Place → Told → Type 0
+abbrev pub IsTold : List ProductPlace → Told → Type 0
 IsTold places told = (told.count ≡ length places) × (told.shown ≡ take 8 places)
 
 -- these are told of the places of each value, of those of the last one first
-abbrev pub AreTold : (ℕ → List Place) → List Told → Type 0
+abbrev pub AreTold : (ℕ → List ProductPlace) → List Told → Type 0
 AreTold places told = (v : ℕ) → v < length told → IsSomeAnd (slice_get told (length told - suc v)) (IsTold (places v))
 
 -- these are told of the places of products that each value reaches
 pub record TellsOf (shape : Shape) (blocks : List Op) (told : List Told) : Type 0 where
-  pub places : ℕ → List Place
+  pub places : ℕ → List ProductPlace
   pub reached : (v : ℕ) → ArePlacesOf shape blocks v (places v)
   pub are : AreTold places told

@@ -11,7 +11,7 @@ use Rattle.mk_rules.specs.Shape.{Shape, shape_of}
 use Rattle.mk_rules.specs.Claimed.{Claimed}
 use Rattle.mk_lines.specs.CertLines.{op_line, block_line as line_of_block}
 use Rattle.mk_lines.specs.Words.{line, operand_word}
-use Rattle.mk_report.specs.declared.need.Place.{Place}
+use Rattle.mk_report.specs.declared.need.ProductPlace.{ProductPlace}
 use Rattle.mk_report.specs.Reached.{ArePlacesOf}
 
 -- how many instructions a block has at an order
@@ -23,31 +23,31 @@ abbrev pub randoms_of : ℕ → Op → ℕ
 randoms_of order op = randoms (built_in (order + 1) op).instrs
 
 -- a place: its block, and which operand
-abbrev pub place_word : Place → List ℕ
+abbrev pub place_word : ProductPlace → List ℕ
 place_word p = operand_word (Block p.block) ++ codes "." ++ decimal p.operand
 
 -- places with commas between, or a dash
-abbrev pub places_word : List Place → List ℕ
+abbrev pub places_word : List ProductPlace → List ℕ
 places_word [] = codes "-"
 places_word (p ∷ ps) = place_word p ++ flat_map (λ q. codes "," ++ place_word q) ps
 
 -- how many places, and the first eight of them
-abbrev pub need_words : List Place → List ℕ
+abbrev pub need_words : List ProductPlace → List ℕ
 need_words places = decimal (length places) ++ codes " " ++ places_word (take 8 places)
 
 -- the line of a secret, which costs nothing and reaches these places
-abbrev pub secret_line : ℕ → List Place → List ℕ
+abbrev pub secret_line : ℕ → List ProductPlace → List ℕ
 secret_line k places = line (operand_word (Secret k) ++ codes " input 0 0 " ++ need_words places)
 
 -- the line of a block
-abbrev pub block_line : ℕ → ℕ → Op → List Place → List ℕ
+abbrev pub block_line : ℕ → ℕ → Op → List ProductPlace → List ℕ
 block_line order k op places =
     line (operand_word (Block k) ++ codes " " ++ operator_word op ++ codes " " ++ decimal (instrs_of order op) ++ codes " "
     ++ decimal (randoms_of order op) ++ codes " " ++ need_words places)
 
 -- the line of a block has for its kind the word that stands for it in the bundle text: one without a space,
 -- behind `block ` and before a space
-pub record NamesKind (order k : ℕ) (op : Op) (places : List Place) : Type 0 where
+pub record NamesKind (order k : ℕ) (op : Op) (places : List ProductPlace) : Type 0 where
   pub kind : List ℕ
   pub rest : List ℕ
   pub words : List ℕ
@@ -62,7 +62,7 @@ total_line order blocks =
     ++ decimal (sum_by (randoms_of order) blocks))
 
 -- the text where each value reaches these places
-abbrev pub report_text : Shape → List Op → (ℕ → List Place) → List ℕ
+abbrev pub report_text : Shape → List Op → (ℕ → List ProductPlace) → List ℕ
 report_text shape blocks places =
     flat_map (λ k. secret_line k (places k)) (range_with_len 0 shape.secrets)
     ++ flat_map (λ row. block_line shape.order row.0 row.1 (places (shape.secrets + shape.publics + row.0))) (enumerate_from 0 blocks)
@@ -70,6 +70,6 @@ report_text shape blocks places =
 
 -- the report: of each value the places of products that it reaches
 pub record IsReport (code : Listing) (cert : Claimed) (text : List ℕ) : Type 0 where
-  pub places : ℕ → List Place
+  pub places : ℕ → List ProductPlace
   pub reached : (v : ℕ) → ArePlacesOf (shape_of code) cert.blocks v (places v)
   pub is : text ≡ report_text (shape_of code) cert.blocks places

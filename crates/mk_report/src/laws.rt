@@ -7,7 +7,7 @@ ghost use Rattle.mk_rules.specs.Shape.{Shape};
 ghost use Rattle.mk_rules.specs.Claimed.{Claimed};
 ghost use Rattle.mk_rules.specs.Wired.{Wired};
 ghost use Rattle.mk_rules.specs.Accepts.{IsAccepted};
-ghost use Rattle.mk_report.specs.declared.need.Place.{Place};
+ghost use Rattle.mk_report.specs.declared.need.ProductPlace.{ProductPlace};
 ghost use Rattle.mk_report.specs.Reached.{ArePlacesOf};
 ghost use Rattle.mk_report.specs.Report.{IsReport, NamesKind, instrs_of};
 
@@ -17,8 +17,8 @@ ghost use Rattle.mk_report.specs.Report.{IsReport, NamesKind, instrs_of};
 pub fn report_law()
     ensures one { (code : Listing) (cert : Claimed) (text other : List ℕ) → IsReport code cert text
         → IsReport code cert other → text ≡ other }
-    ensures kinds { (order k : ℕ) (op : Op) (places : List Place) → NamesKind order k op places }
-    ensures public { (shape : Shape) (blocks : List Op) (k : ℕ) (op : Op) (places : List Place) → Wired shape blocks
+    ensures kinds { (order k : ℕ) (op : Op) (places : List ProductPlace) → NamesKind order k op places }
+    ensures public { (shape : Shape) (blocks : List Op) (k : ℕ) (op : Op) (places : List ProductPlace) → Wired shape blocks
         → slice_get blocks k ≡ Some op → is_public op ≡ true → ArePlacesOf shape blocks
         (shape.secrets + shape.publics + k) places → places ≡ [] }
     ensures total { (code : Listing) (cert : Claimed) → IsAccepted code cert

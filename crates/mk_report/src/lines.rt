@@ -7,21 +7,21 @@ ghost use Rattle.mk_rules.specs.Shape.{shape_of};
 ghost use Rattle.mk_report.specs.Passing.{IsTold, AreTold};
 ghost use Rattle.mk_report.specs.Report.{instrs_of, randoms_of, place_word, places_word, need_words, secret_line, block_line, total_line, report_text};
 
-use crate::need::{Place, Told};
+use crate::need::{ProductPlace, Told};
 use mk_code::Code;
 use mk_rules::cost;
 use mk_ssa::Op;
 use std::alloc::AllocError;
 
 /// Appends a place.
-fn push_place(text: &mut String, place: Place) -> Result<(), AllocError>
+fn push_place(text: &mut String, place: ProductPlace) -> Result<(), AllocError>
     ensures { OnOk result (string_bytes text.new ≡ string_bytes text.old ++ place_word place) }
 {
     write!(text, "b{}.{}", place.block, place.operand)
 }
 
 /// Appends places, a comma before each.
-fn push_others(text: &mut String, places: &[Place]) -> Result<(), AllocError>
+fn push_others(text: &mut String, places: &[ProductPlace]) -> Result<(), AllocError>
     ensures { OnOk result (string_bytes text.new ≡ string_bytes text.old
         ++ flat_map (λ q. codes "," ++ place_word q) places.now) }
 {
@@ -33,7 +33,7 @@ fn push_others(text: &mut String, places: &[Place]) -> Result<(), AllocError>
 }
 
 /// Appends places with commas between, or a dash.
-fn push_places(text: &mut String, places: &[Place]) -> Result<(), AllocError>
+fn push_places(text: &mut String, places: &[ProductPlace]) -> Result<(), AllocError>
     ensures { OnOk result (string_bytes text.new ≡ string_bytes text.old ++ places_word places.now) }
 {
     match places.split_first() {
@@ -47,7 +47,7 @@ fn push_places(text: &mut String, places: &[Place]) -> Result<(), AllocError>
 
 /// Appends how many places there are, and the first of them.
 fn push_need(text: &mut String, told: &Told) -> Result<(), AllocError>
-    ensures { OnOk result ((places : List Place) → IsTold places told.now → string_bytes text.new
+    ensures { OnOk result ((places : List ProductPlace) → IsTold places told.now → string_bytes text.new
         ≡ string_bytes text.old ++ need_words places) }
 {
     write!(text, "{} ", told.count)?;
@@ -56,7 +56,7 @@ fn push_need(text: &mut String, told: &Told) -> Result<(), AllocError>
 
 /// Appends the line of a secret.
 fn push_secret(text: &mut String, secret: u32, told: &Told) -> Result<(), AllocError>
-    ensures { OnOk result ((places : List Place) → IsTold places told.now → string_bytes text.new
+    ensures { OnOk result ((places : List ProductPlace) → IsTold places told.now → string_bytes text.new
         ≡ string_bytes text.old ++ secret_line secret places) }
 {
     write!(text, "s{secret} input 0 0 ")?;
@@ -73,7 +73,7 @@ fn push_block(
     told: &Told,
 ) -> Result<(), AllocError>
     requires order { (1 ≤ order) × (order ≤ TOP_ORDER) }
-    ensures { OnOk result ((places : List Place) → IsTold places told.now → string_bytes text.new
+    ensures { OnOk result ((places : List ProductPlace) → IsTold places told.now → string_bytes text.new
         ≡ string_bytes text.old ++ block_line order block op places) }
 {
     let price = cost(&op, order);
@@ -88,7 +88,7 @@ fn push_block(
 /// What is told of the value with this number, where the last value is told of first.
 fn told_of(told: &[Told], value: usize) -> &Told
     requires { value < length told.now }
-    ensures { (places : ℕ → List Place) → AreTold places told.now → IsTold (places value) result.now }
+    ensures { (places : ℕ → List ProductPlace) → AreTold places told.now → IsTold (places value) result.now }
 {
     &told[told.len() - 1 - value]
 }
@@ -96,7 +96,7 @@ fn told_of(told: &[Told], value: usize) -> &Told
 /// Appends the lines of the secrets.
 fn push_secrets(text: &mut String, secrets: u32, told: &[Told]) -> Result<(), AllocError>
     requires { secrets ≤ length told.now }
-    ensures { OnOk result ((places : ℕ → List Place) → AreTold places told.now → string_bytes text.new
+    ensures { OnOk result ((places : ℕ → List ProductPlace) → AreTold places told.now → string_bytes text.new
         ≡ string_bytes text.old ++ flat_map (λ k. secret_line k (places k)) (range_with_len 0 secrets)) }
 {
     for secret in 0..secrets {
@@ -113,7 +113,7 @@ fn push_blocks(
     told: &[Told],
 ) -> Result<(), AllocError>
     requires { length told.now ≡ code.now.secrets + code.now.publics + length blocks.now }
-    ensures { OnOk result ((places : ℕ → List Place) → AreTold places told.now → string_bytes text.new
+    ensures { OnOk result ((places : ℕ → List ProductPlace) → AreTold places told.now → string_bytes text.new
         ≡ string_bytes text.old ++ flat_map (λ row. block_line code.now.order row.0 row.1
         (places (code.now.secrets + code.now.publics + row.0))) (enumerate_from 0 blocks.now)) }
 {
@@ -177,7 +177,7 @@ pub(crate) fn push_report(
 ) -> Result<(), AllocError>
     requires small { length blocks.now < 2 ^ 32 }
     requires count { length told.now ≡ code.now.secrets + code.now.publics + length blocks.now }
-    ensures { OnOk result ((places : ℕ → List Place) → AreTold places told.now → string_bytes text.new
+    ensures { OnOk result ((places : ℕ → List ProductPlace) → AreTold places told.now → string_bytes text.new
         ≡ string_bytes text.old ++ report_text (shape_of code.now) blocks.now places) }
 {
     code.law();

@@ -1,21 +1,23 @@
-//! Places of products, lists of them in order, and what is told of a list.
+//! Places of products, and what is told of a row of bits that stands for some.
 
-ghost use Rattle.std.specs.Prelude.{◌≡◌, ◌++◌, IfOk, OnOk, IsTrue};
-ghost use Rattle.mk_report.specs.Reached.{is_before as before, AreAscending};
-ghost use Rattle.mk_report.specs.Passing.{AllBefore, AreBoth, IsTold};
+ghost use Rattle.std.specs.Prelude.{◌≡◌, ◌++◌, ◌*◌, ◌/◌, ◌<◌, ◌≤◌, ◌^◌, ℕ, length, take, map, slice_get, IfOk, OnOk};
+ghost use Rattle.mk_rules.specs.Rows.{HasBit};
+ghost use Rattle.mk_report.specs.Rows.{bits_between, set_bits, place_for, places_in, HavePlaces};
+ghost use Rattle.mk_report.specs.Passing.{IsTold};
 
 use mk_base::{Items, Memory};
+use mk_rules::has_bit;
 use std::alloc::Global;
 
 /// A place of a product: the number of its block, and which operand.
 #[derive(Clone, Copy, Debug, PartialEq, Eq)]
-pub(crate) struct Place {
+pub(crate) struct ProductPlace {
     pub block: u32,
     pub operand: u8,
 }
 
 /// Places by block and then operand, each once.
-pub(crate) type Need = Items<Place>;
+pub(crate) type Need = Items<ProductPlace>;
 
 /// How many places of a value are shown.
 const SHOWN: usize = 8;
@@ -27,99 +29,72 @@ pub(crate) struct Told {
     pub shown: Need,
 }
 
-/// Whether the place comes before the other one.
-fn is_before(place: Place, other: Place) -> bool
-    ensures { result ≡ before place other }
+/// The place for a bit: bits 2r and 2r + 1 are those of product r, of which this is the block.
+fn place_of(products: &[u32], bit: usize) -> ProductPlace
+    requires { bit / 2 < length products.now }
+    ensures { result ≡ place_for products.now bit }
 {
-    place.block < other.block || (place.block == other.block && place.operand < other.operand)
+    ProductPlace {
+        block: products[bit / 2],
+        operand: (bit % 2) as u8,
+    }
 }
 
-/// Appends places.
-fn push_all(need: &mut Need, places: &[Place]) -> Result<(), Memory>
-    ensures { OnOk result (need.new ≡ need.old ++ places.now) }
+/// How many bits of a row are set.
+fn count_of(row: &[u64]) -> usize
+    requires { length row.now < 2 ^ 32 }
+    ensures { result ≡ length (set_bits row.now) }
 {
-    for place in places {
-        need.push(*place)?;
+    let mut count = 0;
+    for word in row {
+        count += word.count_ones() as usize;
+    }
+    count
+}
+
+/// Appends the places for the bits of a word that are set, until there are as many as are shown.
+fn show_word(shown: &mut Need, products: &[u32], row: &[u64], word: usize) -> Result<(), Memory>
+    requires word { word < length row.now }
+    requires small { length row.now < 2 ^ 32 }
+    requires products { HavePlaces products.now row.now }
+    requires shown { length shown.old ≤ 8 }
+    ensures { OnOk result (shown.new ≡ take 8 (shown.old
+        ++ map (place_for products.now) (bits_between row.now (64 * word) 64))) }
+{
+    for at in 0..64 {
+        let bit = 64 * word + at;
+        if shown.len() < SHOWN && has_bit(row, bit) {
+            shown.push(place_of(products, bit))?;
+        }
     }
     Ok(())
 }
 
-/// Whether all places of a list come before those of another one.
-fn are_before(places: &[Place], others: &[Place]) -> bool
-    requires places { AreAscending places.now }
-    requires others { AreAscending others.now }
-    ensures { IsTrue result → AllBefore places.now others.now }
+/// The first places for the bits of a row that are set.
+fn shown_of(alloc: Global, products: &[u32], row: &[u64]) -> Result<Need, Memory>
+    requires small { length row.now < 2 ^ 32 }
+    requires products { HavePlaces products.now row.now }
+    ensures { IfOk result (λ shown. shown ≡ take 8 (places_in products.now row.now)) }
 {
-    match (places.last(), others.first()) {
-        (Some(last), Some(first)) => is_before(*last, *first),
-        _ => true,
-    }
-}
-
-/// The places of a list and then those of another one.
-fn appended(alloc: Global, places: &[Place], others: &[Place]) -> Result<Need, Memory>
-    ensures { IfOk result (λ both. both ≡ places.now ++ others.now) }
-{
-    let mut both = Vec::with_capacity(alloc, places.len() + others.len())?;
-    both.extend_from_slice(places)?;
-    both.extend_from_slice(others)?;
-    if both.len() > u32::MAX as usize {
-        return Err(Memory);
-    }
-    Ok(Items::from_vec(both))
-}
-
-/// The places of both lists, of which each may have places between those of the other.
-fn merge(alloc: Global, left: &[Place], right: &[Place]) -> Result<Need, Memory>
-    requires left { AreAscending left.now }
-    requires right { AreAscending right.now }
-    ensures { IfOk result (λ both. AreBoth left.now right.now both) }
-{
-    let mut both = Items::new(alloc);
-    let mut i = 0;
-    let mut j = 0;
-    while i < left.len() && j < right.len() {
-        if is_before(left[i], right[j]) {
-            both.push(left[i])?;
-            i += 1;
-        } else if is_before(right[j], left[i]) {
-            both.push(right[j])?;
-            j += 1;
-        } else {
-            both.push(left[i])?;
-            i += 1;
-            j += 1;
+    let mut shown = Items::new(alloc);
+    for word in 0..row.len() {
+        if shown.len() >= SHOWN {
+            return Ok(shown);
+        }
+        if row[word] != 0 {
+            show_word(&mut shown, products, row, word)?;
         }
     }
-    push_all(&mut both, &left[i..])?;
-    push_all(&mut both, &right[j..])?;
-    Ok(both)
+    Ok(shown)
 }
 
-/// The places of both lists.
-pub(crate) fn union(alloc: Global, left: &[Place], right: &[Place]) -> Result<Need, Memory>
-    requires left { AreAscending left.now }
-    requires right { AreAscending right.now }
-    ensures { IfOk result (λ both. AreBoth left.now right.now both) }
+/// What is told of a value, where the row stands for the places that it reaches.
+pub(crate) fn tell(alloc: Global, products: &[u32], row: &[u64]) -> Result<Told, Memory>
+    requires small { length row.now < 2 ^ 32 }
+    requires products { HavePlaces products.now row.now }
+    ensures { IfOk result (λ told. IsTold (places_in products.now row.now) told) }
 {
-    if are_before(left, right) {
-        return appended(alloc, left, right);
-    }
-    if are_before(right, left) {
-        return appended(alloc, right, left);
-    }
-    merge(alloc, left, right)
-}
-
-/// What is told of a value that reaches these places. The others are let go.
-pub(crate) fn tell(alloc: Global, need: Need) -> Result<Told, Memory>
-    ensures { IfOk result (λ told. IsTold need told) }
-{
-    let count = need.len();
-    if count <= SHOWN {
-        return Ok(Told { count, shown: need });
-    }
-    let mut shown = Items::new(alloc);
-    push_all(&mut shown, &need.as_slice()[..SHOWN])?;
+    let count = count_of(row);
+    let shown = shown_of(alloc, products, row)?;
     Ok(Told { count, shown })
 }

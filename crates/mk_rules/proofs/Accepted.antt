@@ -18,7 +18,7 @@ use Rattle.mk_gadget.specs.Template.{template}
 use Rattle.mk_gadget.proofs.Steady.{template-steady}
 use Rattle.mk_rules.specs.Shape.{Shape, shape_of}
 use Rattle.mk_rules.specs.Claimed.{Claimed}
-use Rattle.mk_rules.specs.Tiles.{value_number, input_banks, reads, laid, first_place}
+use Rattle.mk_rules.specs.Tiles.{value_number, input_banks, reads, laid, first_position}
 use Rattle.mk_rules.specs.Wired.{IsSharedThere, IsPublicThere, IsWired, AllWired}
 use Rattle.mk_rules.specs.Reaches.{Link, links}
 use Rattle.mk_rules.specs.Privacy.{HaveTemplates, AcceptedIsPrivate}
@@ -251,7 +251,7 @@ accepted-private code product refresh cert images templates accepts =
     subst (λ (v : ℕ). AllBlocks code.field code.maps (code.order + 1) known v bs) none (blocks-good (shape_of code) product refresh [] cert.blocks given accepts.wired) in
     blocks-private code known bs images
     (record { secrets = known-secret (shape_of code) product refresh cert.blocks; publics = known-public (shape_of code) product refresh cert.blocks })
-    (accepts.tiles ∙ laid-same (shape_of code) product refresh (input_banks (shape_of code)) (first_place (shape_of code)) cert.blocks given)
+    (accepts.tiles ∙ laid-same (shape_of code) product refresh (input_banks (shape_of code)) (first_position (shape_of code)) cert.blocks given)
     all
     (undoubled-single inputs (links (shape_of code) cert.blocks) accepts.undoubled code.field code.maps (code.order + 1) known 0 inputs bs (sym none)
     (λ i.

@@ -71,6 +71,7 @@ pub record Asking (field : FieldId) (maps : List AddMap) (n m p : ℕ) (gadget :
   pub even : kind ≢ Strong → (probes outs : List ℕ) (j k : ℕ) → asks probes outs j ≡ asks probes outs k
   pub weak : kind ≢ Strong → (probes outs : List ℕ) → AllBelow (length gadget.instrs) probes → AllBelow n outs
       → DependsAt field maps n m p gadget probes outs (λ k. asks probes outs k ++ outs)
+  -- a strong gadget asks for no more than was probed
   pub strong : kind ≡ Strong → (probes outs : List ℕ) → AllBelow (length gadget.instrs) probes → AllBelow n outs → length probes + length outs < n
       → DependsAt field maps n m p gadget probes outs (asks probes outs)
 

@@ -10,10 +10,10 @@ use Rattle.mk_code.specs.Private.{Private}
 use Rattle.mk_ssa.specs.declared.Op.{Op}
 use Rattle.mk_ssa.specs.declared.Op.TheVariants.{Mul, Refresh}
 use Rattle.mk_gadget.specs.Pairs.{pairs}
-use Rattle.mk_gadget.specs.Product.{product_gadget, sum_place}
+use Rattle.mk_gadget.specs.Product.{product_gadget, sum_position}
 use Rattle.mk_gadget.specs.Refresh.{refresh_gadget, refresh_sum}
 use Rattle.mk_gadget.proofs.RefreshRun.{length-refresh, refresh_sum-below, all-done, refresh-fits}
-use Rattle.mk_gadget.proofs.ProductRows.{length-product, sum_place-inside, product-fits}
+use Rattle.mk_gadget.proofs.ProductRows.{length-product, sum_position-inside, product-fits}
 use Rattle.mk_gadget.proofs.RefreshStrong.{refresh-strong}
 use Rattle.mk_gadget.proofs.ProductStrong.{product-strong}
 use Rattle.mk_rules.specs.Shape.{Shape, shape_of}
@@ -39,9 +39,9 @@ product-template field maps n =
     record {
       strong = product-strong field maps n;
       fit = subst (λ (p : ℕ). AllFit field (length maps) p (product_gadget n).instrs) two (product-fits field (length maps) n);
-      count = length-map-range_with_len (λ i. sum_place n i n) 0 n;
-      within = AllBelow-map (n * 2 + length (product_gadget n).instrs) 0 n (λ i. sum_place n i n)
-          (λ i low high. omega (arith, sum_place-inside n i (omega (arith, high)), length-product n));
+      count = length-map-range_with_len (λ i. sum_position n i n) 0 n;
+      within = AllBelow-map (n * 2 + length (product_gadget n).instrs) 0 n (λ i. sum_position n i n)
+          (λ i low high. omega (arith, sum_position-inside n i (omega (arith, high)), length-product n));
     }
 
 -- the refresh

@@ -20,7 +20,7 @@ use Rattle.mk_code.proofs.Encodings.{EncodingsLaw-holds}
 use Rattle.mk_code.proofs.LeftOut.{IsLeftOut, left_out}
 use Rattle.mk_gadget.proofs.Ranges.{AllBelow-range}
 use Rattle.mk_rules.specs.Shape.{Shape, shape_of}
-use Rattle.mk_rules.specs.Tiles.{input_banks, first_place}
+use Rattle.mk_rules.specs.Tiles.{input_banks, first_position}
 use Rattle.mk_rules.proofs.Probes.{Contains-none, Contains-cases, inside, inside-held, inside-behind, behind-few}
 use Rattle.mk_rules.proofs.Blocks.{Block, only, need, AllAskFew}
 use Rattle.mk_rules.proofs.Needs.{need-few, need-below}
@@ -71,7 +71,7 @@ secret-end shape x below =
 
 -- the banks of the inputs
 pub input-banks : (shape : Shape) (known : ℕ → Bool) → AreInputs shape known
-    → AreBanks (shape.order + 1) known (shape.secrets + shape.publics) (first_place shape) (input_banks shape)
+    → AreBanks (shape.order + 1) known (shape.secrets + shape.publics) (first_position shape) (input_banks shape)
 unfolding AllBelow
 input-banks shape known inputs =
     let n : ℕ = shape.order + 1 in
@@ -91,10 +91,10 @@ input-banks shape known inputs =
       ];
       below = λ x below. elim (cases_lt x shape.secrets) [
         | inl secret ↦
-            subst (AllBelow (first_place shape)) (sym (secret-bank shape x secret))
-            (AllBelow-range (first_place shape) (x * n) n (omega (arith, secret-end shape x secret)))
+            subst (AllBelow (first_position shape)) (sym (secret-bank shape x secret))
+            (AllBelow-range (first_position shape) (x * n) n (omega (arith, secret-end shape x secret)))
         | inr late ↦
-            subst (AllBelow (first_place shape)) (sym (public-bank shape x late below)) (omega arith, tt)
+            subst (AllBelow (first_position shape)) (sym (public-bank shape x late below)) (omega arith, tt)
       ];
     }
 
@@ -116,7 +116,7 @@ ways-parts code publics secrets probes seen =
 
 module _ (code : Listing) (known : ℕ → Bool) (bs : List Block) (publics probes seen : List ℕ)
     (images : AreElementMaps code.field code.maps) (inputs : AreInputs (shape_of code) known)
-    (made : code.instrs ≡ blocks_laid (input_banks (shape_of code)) (first_place (shape_of code)) bs)
+    (made : code.instrs ≡ blocks_laid (input_banks (shape_of code)) (first_position (shape_of code)) bs)
     (all : AllBlocks code.field code.maps (code.order + 1) known (code.secrets + code.publics) bs)
     (single : AllSingle (code.secrets + code.publics) bs)
     (given : Elements (size code.field) code.publics publics) (few : length probes ≤ code.order) where
@@ -124,7 +124,7 @@ module _ (code : Listing) (known : ℕ → Bool) (bs : List Block) (publics prob
   abbrev touched : ℕ → List ℕ
   touched x =
       inside (x * (code.order + 1)) (code.order + 1) probes
-      ++ need probes (only x) (first_place (shape_of code)) (code.secrets + code.publics) bs
+      ++ need probes (only x) (first_position (shape_of code)) (code.secrets + code.publics) bs
 
   -- the blocks ask for few shares
   asking : AllAskFew (code.order + 1) bs
@@ -134,12 +134,12 @@ module _ (code : Listing) (known : ℕ → Bool) (bs : List Block) (publics prob
   touched-few : (x : ℕ) → x < code.secrets → length (touched x) < suc code.order
   touched-few x below =
       let n : ℕ = code.order + 1 in
-      let wanted : List ℕ = need probes (only x) (first_place (shape_of code)) (code.secrets + code.publics) bs in
+      let wanted : List ℕ = need probes (only x) (first_position (shape_of code)) (code.secrets + code.publics) bs in
       omega (
         arith,
         length-append (inside (x * n) n probes) wanted,
-        need-few n probes (only x) (first_place (shape_of code)) (code.secrets + code.publics) bs asking,
-        inside-behind (x * n) n (first_place (shape_of code)) probes (omega (arith, secret-end (shape_of code) x below)),
+        need-few n probes (only x) (first_position (shape_of code)) (code.secrets + code.publics) bs asking,
+        inside-behind (x * n) n (first_position (shape_of code)) probes (omega (arith, secret-end (shape_of code) x below)),
         behind-few (x * n) probes,
       )
 
@@ -155,11 +155,11 @@ module _ (code : Listing) (known : ℕ → Bool) (bs : List Block) (publics prob
   -- shares that are equal but for the hidden ones, behind the same publics, agree in front of the blocks
   agree-front : (u w : List ℕ) → length u ≡ code.secrets * (code.order + 1) → length w ≡ code.secrets * (code.order + 1)
       → AgreeBut code.order code.secrets (λ x. (hidden x).0) u w
-      → Agree known probes (code.secrets + code.publics) (first_place (shape_of code)) (input_banks (shape_of code)) bs (u ++ publics) (w ++ publics)
+      → Agree known probes (code.secrets + code.publics) (first_position (shape_of code)) (input_banks (shape_of code)) bs (u ++ publics) (w ++ publics)
   agree-front u w left right but =
       let n : ℕ = code.order + 1 in
       let end : ℕ = code.secrets * n in
-      let wanted : ℕ → List ℕ = λ x. need probes (only x) (first_place (shape_of code)) (code.secrets + code.publics) bs in
+      let wanted : ℕ → List ℕ = λ x. need probes (only x) (first_position (shape_of code)) (code.secrets + code.publics) bs in
       let share : (x j : ℕ) → x < code.secrets → j < n → Contains (touched x) j
       → slice_index (u ++ publics) (x * n + j) ≡ slice_index (w ++ publics) (x * n + j) =
       λ x j below small held.
@@ -194,7 +194,7 @@ module _ (code : Listing) (known : ℕ → Bool) (bs : List Block) (publics prob
         ];
         needed = λ x i below shared held. elim (cases_lt x code.secrets) [
           | inl secret ↦
-              let small : i < n = need-below n probes (only x) (first_place (shape_of code)) (code.secrets + code.publics) bs i asking held in
+              let small : i < n = need-below n probes (only x) (first_position (shape_of code)) (code.secrets + code.publics) bs i asking held in
               let at : slice_index (bank (input_banks (shape_of code)) x) i ≡ x * n + i =
               ap (λ (l : List ℕ). slice_index l i) (secret-bank (shape_of code) x secret) ∙ get_or-range_with_len (x * n) n i 0 small in
               subst (λ (r : ℕ). slice_index (u ++ publics) r ≡ slice_index (w ++ publics) r) (sym at)
@@ -212,10 +212,10 @@ module _ (code : Listing) (known : ℕ → Bool) (bs : List Block) (publics prob
         let q : ℕ = size code.field in
         subst (λ (is : List Instr). total q (randoms is) (λ t. one_if_equal (observation probes (run code.field code.maps is t (u ++ publics))) seen)
         ≡ total q (randoms is) (λ t. one_if_equal (observation probes (run code.field code.maps is t (w ++ publics))) seen)) (sym made)
-        (blocks-even code.field code.maps n known probes (λ o. one_if_equal o seen) (code.secrets + code.publics) (first_place (shape_of code)) (input_banks (shape_of code)) bs
+        (blocks-even code.field code.maps n known probes (λ o. one_if_equal o seen) (code.secrets + code.publics) (first_position (shape_of code)) (input_banks (shape_of code)) bs
         (u ++ publics) (w ++ publics) images (input-banks (shape_of code) known inputs) all single
         (Elements-append q (code.secrets * n) code.publics u publics here given) (Elements-append q (code.secrets * n) code.publics w publics there given)
-        (omega (arith, few, behind-few (first_place (shape_of code)) probes))
+        (omega (arith, few, behind-few (first_position (shape_of code)) probes))
         (agree-front u w here.count there.count but));
   }
 
@@ -232,7 +232,7 @@ module _ (code : Listing) (known : ℕ → Bool) (bs : List Block) (publics prob
 -- code that is made of such blocks is private
 pub blocks-private : (code : Listing) (known : ℕ → Bool) (bs : List Block)
     → AreElementMaps code.field code.maps → AreInputs (shape_of code) known
-    → code.instrs ≡ blocks_laid (input_banks (shape_of code)) (first_place (shape_of code)) bs
+    → code.instrs ≡ blocks_laid (input_banks (shape_of code)) (first_position (shape_of code)) bs
     → AllBlocks code.field code.maps (code.order + 1) known (code.secrets + code.publics) bs
     → AllSingle (code.secrets + code.publics) bs
     → Private code

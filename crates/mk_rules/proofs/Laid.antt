@@ -13,7 +13,7 @@ use Rattle.mk_ssa.specs.Kinds.{kind, is_public}
 use Rattle.mk_gadget.specs.Gadget.{Gadget, placement, moved, placed, placed_outs}
 use Rattle.mk_gadget.specs.Template.{template}
 use Rattle.mk_rules.specs.Shape.{Shape}
-use Rattle.mk_rules.specs.Tiles.{value_number, input_banks, reads, laid, laid_banks, first_place, banks_of}
+use Rattle.mk_rules.specs.Tiles.{value_number, input_banks, reads, laid, laid_banks, first_position, banks_of}
 use Rattle.mk_rules.specs.Wired.{IsSharedThere, AllWired, Wired}
 use Rattle.mk_rules.proofs.Standing.{places_of, is_known}
 use Rattle.mk_rules.proofs.Operators.{IsGiven, FitsBehind, places_behind, template-behind, public-known}
@@ -77,11 +77,11 @@ module _ (shape : Shape) (product refresh : Gadget) where
   module _ (blocks : List Op) where
     -- the instructions of the first k blocks
     abbrev pub laid_to : ℕ → List Instr
-    laid_to k = laid shape product refresh (input_banks shape) (first_place shape) (take k blocks)
+    laid_to k = laid shape product refresh (input_banks shape) (first_position shape) (take k blocks)
 
     -- those of all
     abbrev pub laid_all : List Instr
-    laid_all = laid shape product refresh (input_banks shape) (first_place shape) blocks
+    laid_all = laid shape product refresh (input_banks shape) (first_position shape) blocks
 
     -- the banks of the inputs and of the first k blocks
     abbrev pub banks_to : ℕ → List (List ℕ)
@@ -90,36 +90,36 @@ module _ (shape : Shape) (product refresh : Gadget) where
     -- block k as it is placed
     abbrev pub placed_at : ℕ → Op → List Instr
     placed_at k op =
-        placed (reads shape (banks_to k) op) (first_place shape + length (laid_to k)) (template (shape.order + 1) product refresh op)
+        placed (reads shape (banks_to k) op) (first_position shape + length (laid_to k)) (template (shape.order + 1) product refresh op)
 
     -- one block more
     pub laid_to-more : (k : ℕ) (op : Op) → k < length blocks → laid_to (k + 1) ≡ laid_to k ++ placed_at k (get_or blocks k op)
     laid_to-more k op below =
         let next : Op = get_or blocks k op in
-        ap (laid shape product refresh (input_banks shape) (first_place shape)) (take_more blocks k op below)
-        ∙ laid-append (input_banks shape) (first_place shape) (take k blocks) (next ∷ [])
-        ∙ ap (λ (is : List Instr). laid_to k ++ is) (laid-one (banks_to k) (first_place shape + length (laid_to k)) next)
+        ap (laid shape product refresh (input_banks shape) (first_position shape)) (take_more blocks k op below)
+        ∙ laid-append (input_banks shape) (first_position shape) (take k blocks) (next ∷ [])
+        ∙ ap (λ (is : List Instr). laid_to k ++ is) (laid-one (banks_to k) (first_position shape + length (laid_to k)) next)
 
     -- its bank
     pub banks_to-more : (k : ℕ) (op : Op) → k < length blocks
         → banks_to (k + 1)
-        ≡ banks_to k ++ placed_outs (reads shape (banks_to k) (get_or blocks k op)) (first_place shape + length (laid_to k)) (template (shape.order + 1) product refresh (get_or blocks k op)) ∷ []
+        ≡ banks_to k ++ placed_outs (reads shape (banks_to k) (get_or blocks k op)) (first_position shape + length (laid_to k)) (template (shape.order + 1) product refresh (get_or blocks k op)) ∷ []
     banks_to-more k op below =
         let next : Op = get_or blocks k op in
-        ap (laid_banks shape product refresh (input_banks shape) (first_place shape)) (take_more blocks k op below)
-        ∙ laid_banks-append (input_banks shape) (first_place shape) (take k blocks) (next ∷ [])
-        ∙ laid_banks-one (banks_to k) (first_place shape + length (laid_to k)) next
+        ap (laid_banks shape product refresh (input_banks shape) (first_position shape)) (take_more blocks k op below)
+        ∙ laid_banks-append (input_banks shape) (first_position shape) (take k blocks) (next ∷ [])
+        ∙ laid_banks-one (banks_to k) (first_position shape + length (laid_to k)) next
 
     -- block k among all
     pub laid-parts : (k : ℕ) (op : Op) → k < length blocks → (rest : List Instr) × (laid_all ≡ laid_to k ++ (placed_at k (get_or blocks k op) ++ rest))
     laid-parts k op below =
         let next : Op = get_or blocks k op in
-        let front : (rest : List Instr) × (laid shape product refresh (banks_to k) (first_place shape + length (laid_to k)) (next ∷ drop (k + 1) blocks) ≡ placed_at k next ++ rest) =
-        laid-front (banks_to k) (first_place shape + length (laid_to k)) next (drop (k + 1) blocks) in (
+        let front : (rest : List Instr) × (laid shape product refresh (banks_to k) (first_position shape + length (laid_to k)) (next ∷ drop (k + 1) blocks) ≡ placed_at k next ++ rest) =
+        laid-front (banks_to k) (first_position shape + length (laid_to k)) next (drop (k + 1) blocks) in (
           front.0,
-          ap (laid shape product refresh (input_banks shape) (first_place shape))
+          ap (laid shape product refresh (input_banks shape) (first_position shape))
               (sym (take-append-drop k blocks) ∙ ap (λ (ops : List Op). take k blocks ++ ops) (drop_more blocks k op below))
-              ∙ laid-append (input_banks shape) (first_place shape) (take k blocks) (next ∷ drop (k + 1) blocks)
+              ∙ laid-append (input_banks shape) (first_position shape) (take k blocks) (next ∷ drop (k + 1) blocks)
               ∙ ap (λ (is : List Instr). laid_to k ++ is) front.1,
         )
 
@@ -206,7 +206,7 @@ module _ (shape : Shape) (product refresh : Gadget) where
   pub bank-long : (blocks : List Op) (v : Operand) → Wired shape blocks → ((op : Op) → IsGiven shape product refresh op) → IsSharedThere shape blocks v
       → length (slice_index_or (banks_of shape product refresh blocks) (value_number shape v) []) ≡ shape.order + 1
   bank-long blocks (operand.Secret k) wired given there =
-      (blocks-long [] (input_banks shape) (first_place shape) blocks inputs-long wired given).secrets k there
+      (blocks-long [] (input_banks shape) (first_position shape) blocks inputs-long wired given).secrets k there
   bank-long blocks (operand.Public k) wired given there = absurd there
   bank-long blocks (operand.Block k) wired given there =
-      (blocks-long [] (input_banks shape) (first_place shape) blocks inputs-long wired given).blocks k there
+      (blocks-long [] (input_banks shape) (first_position shape) blocks inputs-long wired given).blocks k there

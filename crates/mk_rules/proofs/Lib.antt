@@ -23,3 +23,6 @@ pub mod Operators
 pub mod Accepted
 pub mod BuiltIn
 pub mod Worked
+pub mod Counting
+pub mod Noting
+pub mod Using

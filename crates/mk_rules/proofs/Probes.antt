@@ -6,20 +6,31 @@ use Rattle.std.proofs.lemmas.List.Elements.{Contains-append_right}
 use Rattle.mk_code.specs.Counting.{AllBelow}
 
 -- an element of a list of one more is the first or one of the others
-pub Contains-cases : (x : ℕ) (xs : List ℕ) (y : ℕ) → Contains (x ∷ xs) y → (x ≡ y) ⊎ Contains xs y
+pub Contains-cases : {X : Type 0} (x : X) (xs : List X) (y : X) → Contains (x ∷ xs) y → (x ≡ y) ⊎ Contains xs y
 Contains-cases x xs y (zero, inside, here) = inl here
 Contains-cases x xs y (suc k, inside, here) = inr (k, omega (arith, inside), here)
 
 -- no list without elements has one
-pub Contains-none : (y : ℕ) → Contains [] y → ⊥
+pub Contains-none : {X : Type 0} (y : X) → Contains [] y → ⊥
 Contains-none y held = absurd (omega (arith, held.1))
 
+-- a list of one element has no other
+pub Contains-only : {X : Type 0} (x y : X) → Contains (x ∷ []) y → x ≡ y
+Contains-only x y held = elim (Contains-cases x [] y held) [
+  | inl here ↦ here
+  | inr more ↦ absurd (Contains-none y more)
+]
+
 -- the first element
-pub Contains-first : (x : ℕ) (xs : List ℕ) (y : ℕ) → x ≡ y → Contains (x ∷ xs) y
+pub Contains-first : {X : Type 0} (x : X) (xs : List X) (y : X) → x ≡ y → Contains (x ∷ xs) y
 Contains-first x xs y same = (0, omega arith, same)
 
+-- it is itself one
+pub Contains-front : {X : Type 0} (x : X) (xs : List X) → Contains (x ∷ xs) x
+Contains-front x xs = Contains-first x xs x refl
+
 -- an element of the others
-pub Contains-more : (x : ℕ) (xs : List ℕ) (y : ℕ) → Contains xs y → Contains (x ∷ xs) y
+pub Contains-more : {X : Type 0} (x : X) (xs : List X) (y : X) → Contains xs y → Contains (x ∷ xs) y
 Contains-more x xs y held = Contains-append_right (x ∷ []) xs y held
 
 -- an element of numbers below q is below q

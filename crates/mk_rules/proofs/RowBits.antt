@@ -3,12 +3,11 @@ use Rattle.std.proofs.Common.{◌≡◌, ◌≢◌, ℕ, zero, suc, ◌+◌, ◌
 use Rattle.std.specs.Int.{bit_at, trailing_zeros}
 use Rattle.std.proofs.lemmas.Bool.{cases_eq, cases_lt, cases_order, eqb-true, and_parts}
 use Rattle.std.proofs.Math.Dec.{eqb-suc-zero}
-use Rattle.std.proofs.lemmas.Nat.{and_le_r}
 use Rattle.std.proofs.Math.Pow.{pow-lt}
 use Rattle.std.proofs.lemmas.List.{get_or_past, get_or-set_same, get_or-set_other}
 use Rattle.std.specs.List.{range_with_len, list_all}
-use Rattle.std.proofs.lemmas.Nat.Bits.{bit_at_and, bit_at_or, bit_at-suc, bit_at-lt, bit_at-zero, bit_at-pow_same, bit_at-pow_other, bit_at-trailing_zeros}
-use Rattle.mk_rules.specs.Rows.{HasBit, HasBitIn, HasPair, Clash}
+use Rattle.std.proofs.lemmas.Nat.Bits.{bit_at_and, bit_at_or, bit_at-suc, bit_at-lt, bit_at-zero, bit_at-pow_same, bit_at-pow_other, bit_at-trailing_zeros, bit_at_above}
+use Rattle.mk_rules.specs.Rows.{HasBit, HasBitIn, HasPair, HasPairAt, Clash}
 
 -- the greater of two bits is set where one of them is
 max-set : (x y : ℕ) → x < 2 → y < 2 → max x y ≡ 1 → (x ≡ 1) ⊎ (y ≡ 1)
@@ -87,37 +86,65 @@ pub some-test : (n : ℕ) → n ≢ 0 → IsTrue (not (nat_eq n 0))
 some-test zero some = absurd (some refl)
 some-test (suc n) some = ap not (eqb-suc-zero n)
 
--- both bits of a pair make a bit of even number
-pub has-pair : (word : ℕ) → bit_and (bit_and word (word / 2)) even ≢ 0 → HasPair word
-has-pair word some =
-    let left : ℕ = bit_and (bit_and word (word / 2)) even in
-    let low = bit_at-trailing_zeros w64 left (omega (arith, some)) (omega (arith, and_le_r (bit_and word (word / 2)) even)) in
-    let i : ℕ = trailing_zeros w64 left in
-    let both = min-set (bit_at (bit_and word (word / 2)) i) (bit_at even i) (sym (bit_at_and (bit_and word (word / 2)) even i) ∙ low.1) (bit_at-lt _ i) (bit_at-lt _ i) in
-    let two = min-set (bit_at word i) (bit_at (word / 2) i) (sym (bit_at_and word (word / 2) i) ∙ both.0) (bit_at-lt _ i) (bit_at-lt _ i) in
-    let e : i % 2 ≡ 0 = omega (arith, even-bits i low.0, both.1) in
-    let half : i ≡ 2 * (i / 2) = omega (arith, e) in (
-      i / 2,
-      omega (arith, low.0),
-      subst (λ (k : ℕ). bit_at word k ≡ 1) half two.0,
-      subst (λ (k : ℕ). bit_at word k ≡ 1) (let s : suc i ≡ 2 * (i / 2) + 1 = omega (arith, e) in s) (bit_at-suc word i ∙ two.1),
-    )
+-- the bits of a word that are set in it, in it moved by one place, and in the mask are those of its pairs
+pub pair-bits : (word i : ℕ) → bit_at (bit_and (bit_and word (word / 2)) even) i ≡ 1 ↔ ((j : ℕ) × (i ≡ 2 * j) × HasPairAt word j)
+pair-bits word i = (from, to)
+  where
+    from : bit_at (bit_and (bit_and word (word / 2)) even) i ≡ 1 → (j : ℕ) × (i ≡ 2 * j) × HasPairAt word j
+    from set =
+        let both = min-set (bit_at (bit_and word (word / 2)) i) (bit_at even i) (sym (bit_at_and (bit_and word (word / 2)) even i) ∙ set) (bit_at-lt _ i) (bit_at-lt _ i) in
+        let two = min-set (bit_at word i) (bit_at (word / 2) i) (sym (bit_at_and word (word / 2) i) ∙ both.0) (bit_at-lt _ i) (bit_at-lt _ i) in
+        let low : i < 64 = elim (cases_lt i 64) [
+          | inl below ↦ below
+          | inr above ↦ absurd (omega (arith, both.1, bit_at_above even 64 i (omega arith) above))
+        ] in
+        let e : i % 2 ≡ 0 = omega (arith, even-bits i low, both.1) in
+        let half : i ≡ 2 * (i / 2) = omega (arith, e) in (
+          i / 2,
+          half,
+          (
+            omega (arith, low),
+            subst (λ (k : ℕ). bit_at word k ≡ 1) half two.0,
+            subst (λ (k : ℕ). bit_at word k ≡ 1) (let s : suc i ≡ 2 * (i / 2) + 1 = omega (arith, e) in s) (bit_at-suc word i ∙ two.1),
+          ),
+        )
 
--- and such a bit is there where both are
-pub pair-has : (word : ℕ) → HasPair word → bit_and (bit_and word (word / 2)) even ≢ 0
-pair-has word (j, below, low, high) none =
-    let up : bit_at (word / 2) (2 * j) ≡ 1 = sym (bit_at-suc word (2 * j)) ∙ (let s : 2 * j + 1 ≡ suc (2 * j) = omega arith in subst (λ (k : ℕ). bit_at word k ≡ 1) s high) in
-    let both : bit_at (bit_and word (word / 2)) (2 * j) ≡ 1 = bit_at_and word (word / 2) (2 * j) ∙ omega (arith, low, up) in
-    let is_even : bit_at even (2 * j) ≡ 1 = even-bits (2 * j) (omega (arith, below)) ∙ omega arith in
-    let set : bit_at (bit_and (bit_and word (word / 2)) even) (2 * j) ≡ 1 = bit_at_and (bit_and word (word / 2)) even (2 * j) ∙ omega (arith, both, is_even) in
-    let unset : bit_at (bit_and (bit_and word (word / 2)) even) (2 * j) ≡ 0 = ap (λ (n : ℕ). bit_at n (2 * j)) none ∙ bit_at-zero (2 * j) in
-    omega (arith, set, unset)
+    to : (j : ℕ) × (i ≡ 2 * j) × HasPairAt word j → bit_at (bit_and (bit_and word (word / 2)) even) i ≡ 1
+    to (j, is, (below, low, high)) =
+        let up : bit_at (word / 2) (2 * j) ≡ 1 = sym (bit_at-suc word (2 * j)) ∙ (let s : 2 * j + 1 ≡ suc (2 * j) = omega arith in subst (λ (k : ℕ). bit_at word k ≡ 1) s high) in
+        let both : bit_at (bit_and word (word / 2)) (2 * j) ≡ 1 = bit_at_and word (word / 2) (2 * j) ∙ omega (arith, low, up) in
+        let is_even : bit_at even (2 * j) ≡ 1 = even-bits (2 * j) (omega (arith, below)) ∙ omega arith in
+        ap (bit_at (bit_and (bit_and word (word / 2)) even)) is
+        ∙ bit_at_and (bit_and word (word / 2)) even (2 * j) ∙ omega (arith, both, is_even)
+
+-- these are the bits for a word's pairs
+abbrev pub ArePairs : ℕ → ℕ → Type 0
+ArePairs word pairs = (i : ℕ) → bit_at pairs i ≡ 1 ↔ ((j : ℕ) × (i ≡ 2 * j) × HasPairAt word j)
+
+module _ (word pairs : ℕ) (small : pairs < 2 ^ 64) (are : ArePairs word pairs) where
+  -- where no bit is set the word has none
+  pub no-pair : pairs ≡ 0 → (j : ℕ) → HasPairAt word j → ⊥
+  no-pair none j pair =
+      omega (arith, (are (2 * j)).1 (j, refl, pair), ap (λ (n : ℕ). bit_at n (2 * j)) none ∙ bit_at-zero (2 * j))
+
+  -- else the lowest bit is that of the first pair
+  pub lowest-pair : pairs ≢ 0 → HasPairAt word (trailing_zeros w64 pairs / 2) × ((j : ℕ) → HasPairAt word j → trailing_zeros w64 pairs / 2 ≤ j)
+  lowest-pair some =
+      let low = bit_at-trailing_zeros w64 pairs (omega (arith, some)) small in
+      let at = (are (trailing_zeros w64 pairs)).0 low.1 in
+      let half : at.0 ≡ trailing_zeros w64 pairs / 2 = omega (arith, at.1) in (
+        subst (HasPairAt word) half at.2,
+        λ j pair. elim (cases_lt j (trailing_zeros w64 pairs / 2)) [
+          | inr late ↦ late
+          | inl early ↦ absurd (omega (arith, (are (2 * j)).1 (j, refl, pair), low.2 (2 * j) (omega (arith, early))))
+        ],
+      )
 
 -- ---- two rows
 
 -- a pair of one word is a clash of the rows
 pub pair-clash : (row other : List ℕ) (k : ℕ) → HasPair (bit_or (slice_index row k) (slice_index other k)) → Clash row other
-pair-clash row other k (j, below, low, high) =
+pair-clash row other k (j, (below, low, high)) =
     let at = pair-place (32 * k + j) in
     let word : (32 * k + j) / 32 ≡ k = omega (arith, below) in
     let bit : (32 * k + j) % 32 ≡ j = omega (arith, below) in (
@@ -137,7 +164,7 @@ clash-pair row other count (r, low, high) =
     let at = pair-place r in
     let a = taken (2 * r) (r / 32) (2 * (r % 32)) at.0 at.1 low in
     let b = taken (2 * r + 1) (r / 32) (2 * (r % 32) + 1) at.2 at.3 high in
-    (r / 32, inside a, (r % 32, omega arith, a, b))
+    (r / 32, inside a, (r % 32, (omega arith, a, b)))
   where
     taken : (n k i : ℕ) → n / 64 ≡ k → n % 64 ≡ i → HasBitIn row other n → bit_at (bit_or (slice_index row k) (slice_index other k)) i ≡ 1
     taken n k i word bit set =
@@ -166,26 +193,35 @@ none-more row other k before here j below pair =
 
 -- ---- one bit of a row
 
--- a word with one bit more has that one and those that it had
-one-more : (a b i : ℕ) → b < 64 → bit_at (bit_or a (1 * 2 ^ b % 2 ^ 64)) i ≡ 1 ↔ ((bit_at a i ≡ 1) ⊎ (i ≡ b))
-one-more a b i below = (from, to)
+-- a word with one bit has that one alone
+pub one-bit : (b i : ℕ) → b < 64 → bit_at (1 * 2 ^ b % 2 ^ 64) i ≡ 1 ↔ (i ≡ b)
+one-bit b i below = (from, to)
   where
     alone : 1 * 2 ^ b % 2 ^ 64 ≡ 2 ^ b
     alone = let small : 2 ^ b < 2 ^ 64 = pow-lt below in omega (arith, small)
 
+    from : bit_at (1 * 2 ^ b % 2 ^ 64) i ≡ 1 → i ≡ b
+    from set = elim (cases_eq i b) [
+      | inl same ↦ same
+      | inr differ ↦ absurd (omega (arith, ap (λ (n : ℕ). bit_at n i) (sym alone) ∙ set, bit_at-pow_other b i differ))
+    ]
+
+    to : i ≡ b → bit_at (1 * 2 ^ b % 2 ^ 64) i ≡ 1
+    to same = ap (λ (n : ℕ). bit_at n i) alone ∙ ap (bit_at (2 ^ b)) same ∙ bit_at-pow_same b
+
+-- a word with one bit more has that one and those that it had
+one-more : (a b i : ℕ) → b < 64 → bit_at (bit_or a (1 * 2 ^ b % 2 ^ 64)) i ≡ 1 ↔ ((bit_at a i ≡ 1) ⊎ (i ≡ b))
+one-more a b i below = (from, to)
+  where
     from : bit_at (bit_or a (1 * 2 ^ b % 2 ^ 64)) i ≡ 1 → (bit_at a i ≡ 1) ⊎ (i ≡ b)
     from set = elim (or-set a (1 * 2 ^ b % 2 ^ 64) i set) [
       | inl old ↦ inl old
-      | inr new ↦ elim (cases_eq i b) [
-        | inl same ↦ inr same
-        | inr differ ↦ absurd (omega (arith, ap (λ (n : ℕ). bit_at n i) (sym alone) ∙ new, bit_at-pow_other b i differ))
-      ]
+      | inr new ↦ inr ((one-bit b i below).0 new)
     ]
 
     to : (bit_at a i ≡ 1) ⊎ (i ≡ b) → bit_at (bit_or a (1 * 2 ^ b % 2 ^ 64)) i ≡ 1
     to (inl old) = set-or a (1 * 2 ^ b % 2 ^ 64) i (inl old)
-    to (inr same) =
-        set-or a (1 * 2 ^ b % 2 ^ 64) i (inr (ap (λ (n : ℕ). bit_at n i) alone ∙ ap (bit_at (2 ^ b)) same ∙ bit_at-pow_same b))
+    to (inr same) = set-or a (1 * 2 ^ b % 2 ^ 64) i (inr ((one-bit b i below).1 same))
 
 -- so has a row with a bit more in the word where that one stands
 pub with-bit : (row : List ℕ) (k : ℕ) → k < 64 * length row → (j : ℕ)

@@ -6,13 +6,13 @@ use Rattle.std.proofs.lemmas.List.{get_or_past}
 use Rattle.std.proofs.lemmas.List.Elements.{All-get_or}
 use Rattle.mk_field.specs.declared.field.FieldId.{FieldId}
 use Rattle.mk_field.specs.declared.map.AddMap.{AddMap}
-use Rattle.mk_field.specs.Field.{bits, size}
+use Rattle.mk_field.specs.Field.{bits, size, image_by}
 use Rattle.mk_field.proofs.Sum.{sum-in_field, zero-element}
 use Rattle.mk_field.proofs.Product.{product-in_field, square-in_field, image-below}
 use Rattle.mk_code.specs.declared.instr.Instr.{Instr}
 use Rattle.mk_code.specs.declared.instr.Instr.TheVariants.{Rnd, Const, Copy, Add, Mul, Sq, Map}
 use Rattle.mk_code.specs.Listing.{FitsAt, AllFit, AreElementMaps}
-use Rattle.mk_code.specs.Trace.{run, takes, entry, image_by}
+use Rattle.mk_code.specs.Trace.{run, takes, entry}
 use Rattle.mk_code.specs.Counting.{AllBelow, Elements}
 use Rattle.mk_code.proofs.Totals.{AllBelow-append, AllBelow-drop}
 use Rattle.mk_code.proofs.Runs.{length-run}

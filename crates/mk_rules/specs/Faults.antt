@@ -5,7 +5,7 @@ use Rattle.mk_ssa.specs.declared.Op.{Op}
 use Rattle.mk_ssa.specs.declared.Operand.{Operand}
 use Rattle.mk_gadget.specs.Gadget.{Gadget}
 use Rattle.mk_rules.specs.Shape.{Shape, shape_of}
-use Rattle.mk_rules.specs.Tiles.{value_number, laid, input_banks, first_place}
+use Rattle.mk_rules.specs.Tiles.{value_number, laid, input_banks, first_position}
 use Rattle.mk_rules.specs.Wired.{IsSharedThere, IsWired, Wired}
 use Rattle.mk_rules.specs.Reaches.{Reaches, links}
 
@@ -23,18 +23,18 @@ pub record FirstMismatch {X : Type 0} (xs ys : List X) (k : ℕ) : Type 0 where
 -- instruction k and not there
 abbrev pub FirstOffTile : Listing → Gadget → Gadget → List Op → ℕ → Type 0
 FirstOffTile code product refresh blocks k =
-    FirstMismatch code.instrs (laid (shape_of code) product refresh (input_banks (shape_of code)) (first_place (shape_of code)) blocks) k
+    FirstMismatch code.instrs (laid (shape_of code) product refresh (input_banks (shape_of code)) (first_position (shape_of code)) blocks) k
 
--- the places of the shares of output k
-abbrev pub output_places : Listing → ℕ → List ℕ
-output_places code k = take (code.order + 1) (drop (k * (code.order + 1)) code.outs)
+-- the positions of the shares of output k
+abbrev pub output_positions : Listing → ℕ → List ℕ
+output_positions code k = take (code.order + 1) (drop (k * (code.order + 1)) code.outs)
 
 -- there is a claim k, of a shared value that is there, and an output k, which is the value's bank among these
 pub record IsClaimed (code : Listing) (banks : List (List ℕ)) (blocks : List Op) (claims : List Operand) (k : ℕ) : Type 0 where
   pub output : k * (code.order + 1) < length code.outs
   pub claim : IsSomeAnd (slice_get claims k)
       (λ v. IsSharedThere (shape_of code) blocks v
-      × (slice_index_or banks (value_number (shape_of code) v) [] ≡ output_places code k))
+      × (slice_index_or banks (value_number (shape_of code) v) [] ≡ output_positions code k))
 
 -- the outputs before output k are claimed; there is a claim or an output k, and the one isn't that of the other
 pub record FirstWrongOutput (code : Listing) (banks : List (List ℕ)) (blocks : List Op) (claims : List Operand) (k : ℕ) : Type 0 where

@@ -9,3 +9,5 @@ pub mod Examples
 pub mod Privacy
 pub mod Rows
 pub mod Pairs
+pub mod Products
+pub mod Uses

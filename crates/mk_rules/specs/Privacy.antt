@@ -16,7 +16,7 @@ use Rattle.mk_rules.specs.Claimed.{Claimed}
 use Rattle.mk_rules.specs.Accepts.{Accepts}
 
 -- a gadget that may stand for a strong operator, with n shares and m shared operands: it is strong, its
--- instructions fit behind the operands' shares, and its out bank has n places, each of them there
+-- instructions fit behind the operands' shares, and its out bank has n positions, each of them there
 pub record IsTemplate (field : FieldId) (maps : List AddMap) (n m : ℕ) (gadget : Gadget) : Type 0 where
   pub strong : IsStrong field maps n m 0 gadget
   pub fit : AllFit field (length maps) (n * m) gadget.instrs

@@ -15,9 +15,13 @@ HasBitIn row other k = HasBit row k ⊎ HasBit other k
 abbrev pub Clash : List ℕ → List ℕ → Type 0
 Clash row other = (r : ℕ) × HasBitIn row other (2 * r) × HasBitIn row other (2 * r + 1)
 
--- a word has both bits 2j and 2j + 1, for some j
+-- a word has both bits 2j and 2j + 1
+abbrev pub HasPairAt : ℕ → ℕ → Type 0
+HasPairAt word j = (j < 32) × (bit_at word (2 * j) ≡ 1) × (bit_at word (2 * j + 1) ≡ 1)
+
+-- it has both for some j
 abbrev pub HasPair : ℕ → Type 0
-HasPair word = (j : ℕ) × (j < 32) × (bit_at word (2 * j) ≡ 1) × (bit_at word (2 * j + 1) ≡ 1)
+HasPair word = (j : ℕ) × HasPairAt word j
 
 -- in a row of the words 5 and 2, bit 0 is set
 pub HasBit-0 : HasBit (5 ∷ 2 ∷ []) 0

@@ -21,19 +21,19 @@ number_behind secrets publics (Block k) = secrets + publics + k
 abbrev pub value_number : Shape → Operand → ℕ
 value_number shape v = number_behind shape.secrets shape.publics v
 
--- the banks of the secrets and of the publics, by value number: the places of their shares
+-- the banks of the secrets and of the publics, by value number: the positions of their shares
 abbrev pub input_banks : Shape → List (List ℕ)
 input_banks shape =
     let n = shape.order + 1 in
     map (λ k. range_with_len (k * n) n) (range_with_len 0 shape.secrets)
     ++ map (λ k. (shape.secrets * n + k) ∷ []) (range_with_len 0 shape.publics)
 
--- the places that an operator reads, among banks by value number
+-- the positions that an operator reads, among banks by value number
 abbrev pub reads : Shape → List (List ℕ) → Op → List ℕ
 reads shape banks op =
     flat_map (λ v. slice_index_or banks (value_number shape v) []) (shared_operands op ++ public_operands op)
 
--- the instructions of the blocks from the place `base` on, behind values with these banks
+-- the instructions of the blocks from the position `base` on, behind values with these banks
 unfoldable pub laid : Shape → Gadget → Gadget → List (List ℕ) → ℕ → List Op → List Instr
 laid shape product refresh banks base [] = []
 laid shape product refresh banks base (op ∷ ops) =
@@ -50,15 +50,15 @@ laid_banks shape product refresh banks base (op ∷ ops) =
     let at = reads shape banks op in
     laid_banks shape product refresh (banks ++ placed_outs at base gadget ∷ []) (base + length gadget.instrs) ops
 
--- the place of the first instruction
-abbrev pub first_place : Shape → ℕ
-first_place shape = inputs_len shape.order shape.secrets shape.publics
+-- the position of the first instruction
+abbrev pub first_position : Shape → ℕ
+first_position shape = inputs_len shape.order shape.secrets shape.publics
 
 -- the code's instructions are the templates of the blocks, one after the other
 abbrev pub Tiles : Listing → Gadget → Gadget → List Op → Type 0
 Tiles code product refresh blocks =
-    code.instrs ≡ laid (shape_of code) product refresh (input_banks (shape_of code)) (first_place (shape_of code)) blocks
+    code.instrs ≡ laid (shape_of code) product refresh (input_banks (shape_of code)) (first_position (shape_of code)) blocks
 
 -- the banks of all values of a code that is made of these blocks
 abbrev pub banks_of : Shape → Gadget → Gadget → List Op → List (List ℕ)
-banks_of shape product refresh blocks = laid_banks shape product refresh (input_banks shape) (first_place shape) blocks
+banks_of shape product refresh blocks = laid_banks shape product refresh (input_banks shape) (first_position shape) blocks

@@ -7,7 +7,9 @@ mod cert;
 mod costs;
 mod laws;
 mod numbers;
+mod products;
 mod rows;
+mod uses;
 
 /// The greatest masking order of a code that has a bundle text.
 pub const TEXT_TOP_ORDER: u8 = 8;
@@ -22,4 +24,6 @@ pub use cert::{Bundle, Cert};
 pub use costs::{Price, cost};
 pub use laws::accepted_law;
 pub use numbers::value_number;
-pub use rows::{has_bit, join_rows, rows_clash, set_bit};
+pub use products::{is_product, product_numbers};
+pub use rows::{first_pair, has_bit, join_rows, rows_clash, set_bit};
+pub use uses::{OperandPlace, shared_numbers, uses_of};

@@ -1,7 +1,8 @@
 //! Rows of bits, in words of 64 bits each: bit k of a row is bit k % 64 of its word k / 64.
 
-ghost use Rattle.std.specs.Prelude.{◌≡◌, ◌⊎◌, ◌*◌, ◌<◌, ℕ, length, IsTrue, ◌↔◌};
-ghost use Rattle.mk_rules.specs.Rows.{HasBit, HasBitIn, HasPair, Clash};
+ghost use Rattle.std.specs.Prelude.{◌≡◌, ◌⊎◌, ◌*◌, ◌<◌, ◌≤◌, ℕ, length, IsTrue, IfSome, IsSomeAnd, ◌↔◌};
+ghost use Rattle.std.specs.Int.{bit_at};
+ghost use Rattle.mk_rules.specs.Rows.{HasBit, HasBitIn, HasPair, HasPairAt, Clash};
 
 /// Leaves in `row` the bits that were set in it or are set in `other`, a row of as many words. It takes no
 /// memory.
@@ -18,11 +19,30 @@ pub fn join_rows(row: &mut [u64], other: &[u64])
 /// The bits 0, 2, 4 and so on.
 const EVEN: u64 = 0x5555_5555_5555_5555;
 
+/// The bits 2j of a word of which bit 2j + 1 is set in it, too.
+fn pairs(word: u64) -> u64
+    ensures { (i : ℕ) → bit_at result i ≡ 1 ↔ ((j : ℕ) × (i ≡ 2 * j) × HasPairAt word j) }
+{
+    word & (word >> 1) & EVEN
+}
+
 /// Whether a word has both bits 2j and 2j + 1, for some j.
 fn has_pair(word: u64) -> bool
     ensures { IsTrue result ↔ HasPair word }
 {
-    word & (word >> 1) & EVEN != 0
+    pairs(word) != 0
+}
+
+/// The least j of which a word has both bits 2j and 2j + 1, if there is one.
+pub fn first_pair(word: u64) -> Option<usize>
+    ensures pair { IfSome result (HasPairAt word) }
+    ensures first { (j : ℕ) → HasPairAt word j → IsSomeAnd result (λ least. least ≤ j) }
+{
+    let pairs = pairs(word);
+    if pairs == 0 {
+        return None;
+    }
+    Some(pairs.trailing_zeros() as usize / 2)
 }
 
 /// Whether, for some r, each of the bits 2r and 2r + 1 is set in one of two rows of as many words. It takes no

@@ -41,7 +41,7 @@ pub count-probes : count_refusal leaking_square [] (0 ∷ []) (1 ∷ []) (3 ∷ 
 unfolding randoms
 count-probes = refl
 
--- place 11 is behind the trace
+-- position 11 is behind the trace
 pub count-outside : count_refusal leaking_square [] (0 ∷ []) (1 ∷ []) (11 ∷ []) ≡ Some (count_.Probe 0)
 unfolding randoms
 count-outside = refl

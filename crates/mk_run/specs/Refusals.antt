@@ -88,7 +88,7 @@ worlds_refusal code publics first second =
     (option_or (no_element which_.Public (size code.field) publics)
     (option_or (no_element which_.Secret (size code.field) first) (no_element which_.Other (size code.field) second)))))
 
--- there are more probes than the order, or a probe is no place of the trace: the first such one
+-- there are more probes than the order, or a probe is no position of the trace: the first such one
 abbrev pub wrong_probe : Listing → List ℕ → Option CountRefusal
 wrong_probe code probes =
     if nat_lt code.order (length probes) then Some (count_.Probe code.order)

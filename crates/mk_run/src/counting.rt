@@ -35,7 +35,7 @@ fn write_tape(field: FieldId, number: u32, tape: &mut [u8])
     }
 }
 
-/// Writes what an observer of these places of a trace sees.
+/// Writes what an observer of these positions of a trace sees.
 fn observe(trace: &[u8], probes: &[u32], seen: &mut [u8])
     requires probes { AllBelow (length trace.now) probes.now }
     requires count { length seen.old ≡ length probes.now }
@@ -137,12 +137,12 @@ fn tabulated(
 }
 
 /// How many tapes show what, in two worlds with the same public inputs: for every tuple of values at the
-/// probed places of the trace that comes in one of the worlds, in ascending order of the tuples, the number
+/// probed positions of the trace that comes in one of the worlds, in ascending order of the tuples, the number
 /// of tapes that give it in the first world and in the second. The first elements of a tape encode the
 /// secrets, as many as the order for each, and the rest are the random elements of the run. Refused are, in
 /// this order: a number of public inputs, of the first world's secrets, then of the second's, that is not
 /// the code's; one of these, in the same order, that is no element of the field; more probes than the order,
-/// told as the probe of that number, or else a probe that is no place of the trace; and more than 1,048,576
+/// told as the probe of that number, or else a probe that is no position of the trace; and more than 1,048,576
 /// tapes, or tapes whose traces have more than 4,294,967,296 entries together. `Memory` may stand in the
 /// place of any answer.
 pub fn count(

@@ -18,14 +18,14 @@ const MOST_TAPES: u64 = 1_048_576;
 /// The most entries of all traces of a count together.
 const MOST_ENTRIES: u64 = 4_294_967_296;
 
-/// The number of the first probe that is no place of a trace with so many entries.
+/// The number of the first probe that is no position of a trace with so many entries.
 fn first_outside(len: u32, probes: &[u32]) -> Option<usize>
     ensures { result ≡ position (λ p. not (nat_lt p len)) probes.now }
 {
     probes.iter().position(|probe| *probe >= len)
 }
 
-/// Whether there are at most as many probes as the order, each of them a place of the trace.
+/// Whether there are at most as many probes as the order, each of them a position of the trace.
 pub(crate) fn check_probes(code: &Code, probes: &[u32]) -> Result<(), CountRefusal>
     requires { length probes.now < 2 ^ 32 }
     ensures right { OnOk result (wrong_probe code.now probes.now ≡ None) }

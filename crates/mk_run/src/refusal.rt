@@ -54,7 +54,7 @@ pub enum CountRefusal {
     /// 52: the input of this number, from 0, is no element of the field.
     #[error("an input is no element of the field")]
     Element { which: Which, index: u32 },
-    /// 54: the probe of this number, from 0, is one too many, or is no place of the trace.
+    /// 54: the probe of this number, from 0, is one too many, or is no position of the trace.
     #[error("a probe too many, or outside the trace")]
     Probe { index: u32 },
     /// 91: there are too many tapes of so many elements.

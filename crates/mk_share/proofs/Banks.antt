@@ -1,4 +1,4 @@
--- Neighbouring places.
+-- Neighbouring positions.
 use Rattle.std.proofs.Common.{◌≡◌, ℕ, zero, suc, ◌+◌, List, [], ◌∷◌, ◌++◌, ◌∙◌, ap, arith}
 use Rattle.std.specs.List.{range_with_len}
 

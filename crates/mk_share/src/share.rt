@@ -12,14 +12,14 @@ pub struct Sharing<const N: usize> {
     pub parts: [u8; N],
 }
 
-/// The places of the `N` shares of a value in a trace.
+/// The positions of the `N` shares of a value in a trace.
 #[derive(Clone, Copy, Debug, PartialEq, Eq)]
 pub struct Bank<const N: usize> {
     pub regs: [u32; N],
 }
 
 impl<const N: usize> Bank<N> {
-    /// The `N` places from `first` on.
+    /// The `N` positions from `first` on.
     pub fn from_first(first: u32) -> Bank<N>
         requires { first + N ≤ 2 ^ 32 }
         ensures { result.regs ≡ range_with_len first N }

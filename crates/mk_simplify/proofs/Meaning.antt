@@ -5,14 +5,14 @@ use Rattle.std.proofs.lemmas.List.Elements.{All-weaker}
 use Rattle.std.proofs.lemmas.Option.{slice_get-get_or}
 use Rattle.mk_field.specs.declared.field.FieldId.{FieldId}
 use Rattle.mk_field.specs.declared.map.AddMap.{AddMap}
-use Rattle.mk_field.specs.Field.{product, square}
+use Rattle.mk_field.specs.Field.{product, square, image_by}
 use Rattle.mk_ssa.specs.declared.Op.{Op}
 use Rattle.mk_ssa.specs.declared.Op.TheVariants.{Const, PubAdd, PubMul, PubSq, PubMap, Lift, Add, AddPub, Scale, Sq, Map, Mul, Refresh}
 use Rattle.mk_ssa.specs.declared.Operand.{Operand}
 use Rattle.mk_ssa.specs.declared.Operand.TheVariants.{Secret, Public, Block}
 use Rattle.mk_ssa.specs.Operators.{Operator, operands}
 use Rattle.mk_ssa.specs.Values.{Values}
-use Rattle.mk_ssa.specs.Denoted.{image_by, operand_value, value_by, value_of, values_of, denoted}
+use Rattle.mk_ssa.specs.Denoted.{operand_value, value_by, value_of, values_of, denoted}
 use Rattle.mk_ssa.proofs.InOrder.{in_order-at, in_order-take}
 use Rattle.mk_simplify.specs.Trees.{Tree, tree_by, tree_of}
 use Rattle.mk_simplify.specs.Simplified.{IsSimplified}

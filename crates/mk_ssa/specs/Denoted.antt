@@ -1,9 +1,9 @@
 -- What values stand for: an element for each, by the sums, products, squares and images of the field. A
 -- lifted or refreshed value stays the same.
-use Rattle.std.specs.Prelude.{ℕ, List, [], ◌∷◌, ◌++◌, map, bit_xor, slice_index, slice_index_or}
+use Rattle.std.specs.Prelude.{ℕ, List, [], ◌∷◌, ◌++◌, map, bit_xor, slice_index}
 use Rattle.mk_field.specs.declared.field.FieldId.{FieldId}
 use Rattle.mk_field.specs.declared.map.AddMap.{AddMap}
-use Rattle.mk_field.specs.Field.{product, square, image}
+use Rattle.mk_field.specs.Field.{product, square, image_by}
 use Rattle.mk_ssa.specs.declared.Operand.{Operand}
 use Rattle.mk_ssa.specs.declared.Operand.TheVariants.{Secret, Public, Block}
 use Rattle.mk_ssa.specs.declared.Op.{Op}
@@ -15,10 +15,6 @@ abbrev pub operand_value : List ℕ → List ℕ → List ℕ → Operand → �
 operand_value publics secrets before (Secret k) = slice_index secrets k
 operand_value publics secrets before (Public k) = slice_index publics k
 operand_value publics secrets before (Block k) = slice_index before k
-
--- the image of an element under the map of this number; there is one in values that fit together
-abbrev pub image_by : List AddMap → ℕ → ℕ → ℕ
-image_by maps m a = image (slice_index_or maps m (record { images = [] })) a
 
 -- what an operator stands for, `of` giving what its operands stand for
 abbrev pub value_by : FieldId → List AddMap → (Operand → ℕ) → Op → ℕ

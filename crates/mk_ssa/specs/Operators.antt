@@ -41,21 +41,25 @@ operator (op.Refresh arg) = Operator.Refresh
 abbrev pub operands : Op → List Operand
 operands x = shared_operands x ++ public_operands x
 
+-- an operator with other operands: shared ones by place, public ones, and the argument of a refresh
+abbrev pub with_operands_by : (ℕ → Operand → Operand) → (Operand → Operand) → Op → Op
+with_operands_by shared public (op.Const value) = op.Const value
+with_operands_by shared public (op.PubAdd left right) = op.PubAdd (public left) (public right)
+with_operands_by shared public (op.PubMul left right) = op.PubMul (public left) (public right)
+with_operands_by shared public (op.PubSq arg) = op.PubSq (public arg)
+with_operands_by shared public (op.PubMap map arg) = op.PubMap map (public arg)
+with_operands_by shared public (op.Lift arg) = op.Lift (public arg)
+with_operands_by shared public (op.Add left right) = op.Add (shared 0 left) (shared 1 right)
+with_operands_by shared public (op.AddPub left right) = op.AddPub (shared 0 left) (public right)
+with_operands_by shared public (op.Scale left right) = op.Scale (shared 0 left) (public right)
+with_operands_by shared public (op.Sq arg) = op.Sq (shared 0 arg)
+with_operands_by shared public (op.Map map arg) = op.Map map (shared 0 arg)
+with_operands_by shared public (op.Mul left right) = op.Mul (shared 0 left) (shared 1 right)
+with_operands_by shared public (op.Refresh arg) = op.Refresh (shared 0 arg)
+
 -- an operator over other operands
 abbrev pub with_operands : (Operand → Operand) → Op → Op
-with_operands f (op.Const value) = op.Const value
-with_operands f (op.PubAdd left right) = op.PubAdd (f left) (f right)
-with_operands f (op.PubMul left right) = op.PubMul (f left) (f right)
-with_operands f (op.PubSq arg) = op.PubSq (f arg)
-with_operands f (op.PubMap map arg) = op.PubMap map (f arg)
-with_operands f (op.Lift arg) = op.Lift (f arg)
-with_operands f (op.Add left right) = op.Add (f left) (f right)
-with_operands f (op.AddPub left right) = op.AddPub (f left) (f right)
-with_operands f (op.Scale left right) = op.Scale (f left) (f right)
-with_operands f (op.Sq arg) = op.Sq (f arg)
-with_operands f (op.Map map arg) = op.Map map (f arg)
-with_operands f (op.Mul left right) = op.Mul (f left) (f right)
-with_operands f (op.Refresh arg) = op.Refresh (f arg)
+with_operands f op = with_operands_by (λ k v. f v) f op
 
 -- the word that stands for an operator in texts
 abbrev pub operator_word : Op → List ℕ

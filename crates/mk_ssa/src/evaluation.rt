@@ -1,9 +1,9 @@
 //! What values stand for, computed in their order.
 
 ghost use Rattle.std.specs.Prelude.{◌≡◌, ◌<◌, length, All, IfOk, OnOk, OnErr};
-ghost use Rattle.mk_field.specs.Field.{size};
+ghost use Rattle.mk_field.specs.Field.{size, image_by};
 ghost use Rattle.mk_ssa.specs.Values.{Fits};
-ghost use Rattle.mk_ssa.specs.Denoted.{operand_value, denoted, image_by};
+ghost use Rattle.mk_ssa.specs.Denoted.{operand_value, denoted};
 ghost use Rattle.mk_ssa.specs.Evaluation.{IsEvaluated, HasValue, so_far, next_op, next_value, evaluated};
 
 use crate::values::Ssa;

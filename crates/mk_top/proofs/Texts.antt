@@ -20,7 +20,7 @@ use Rattle.mk_rules.specs.Claimed.{Claimed}
 use Rattle.mk_lines.specs.Words.{operand_word, line}
 use Rattle.mk_field.specs.Digits.{hex_byte}
 use Rattle.mk_lines.specs.CertLines.{op_line, claim_line}
-use Rattle.mk_lines.specs.CodeLines.{map_line, instr_line, place_word, out_line, out_lines}
+use Rattle.mk_lines.specs.CodeLines.{map_line, instr_line, position_word, out_line, out_lines}
 use Rattle.mk_ssa.specs.Widths.{OperandFits, OpFits}
 use Rattle.mk_field.specs.Maps.{MapFits}
 use Rattle.mk_bundle.specs.declared.TheConstants.{MOST_BYTES}
@@ -127,14 +127,14 @@ short-outs shares (suc outputs) ps small =
     let first : List ℕ = take shares ps in
     let rest : List ℕ = drop shares ps in
     let whole : length first + length rest ≡ length ps = sym (length-append first rest) ∙ ap length (take-append-drop shares ps) in
-    let words : length (flat_map place_word first) ≤ length first * 11 =
-    short-lines place_word (λ p. p < 2 ^ 32) 11 (λ p fits. omega (arith, short-decimal p fits)) first
+    let words : length (flat_map position_word first) ≤ length first * 11 =
+    short-lines position_word (λ p. p < 2 ^ 32) 11 (λ p fits. omega (arith, short-decimal p fits)) first
     (recursion_from_All (λ p. p < 2 ^ 32) first (All-take (λ p. p < 2 ^ 32) shares ps small)) in
     omega (
       arith,
       length-append (out_line first) (out_lines shares outputs rest),
       whole,
-      one-word (flat_map place_word first) (length first * 11) words,
+      one-word (flat_map position_word first) (length first * 11) words,
       short-outs shares outputs rest (All-drop (λ p. p < 2 ^ 32) shares ps small),
     )
 

@@ -40,14 +40,14 @@ fn push_outputs(alloc: Global, text: &mut String, count: usize, shares: &[u8]) -
     Ok(())
 }
 
-/// The entries of a trace at these places.
-fn entries_at(alloc: Global, places: &[u32], entries: &[u8]) -> Result<Bytes, Memory>
-    requires { AllBelow (length entries.now) places.now }
-    ensures { IfOk result (λ seen. seen ≡ observation places.now entries.now) }
+/// The entries of a trace at these positions.
+fn entries_at(alloc: Global, positions: &[u32], entries: &[u8]) -> Result<Bytes, Memory>
+    requires { AllBelow (length entries.now) positions.now }
+    ensures { IfOk result (λ seen. seen ≡ observation positions.now entries.now) }
 {
     let mut seen = Items::new(alloc);
-    for place in places {
-        seen.push(entries[*place as usize])?;
+    for position in positions {
+        seen.push(entries[*position as usize])?;
     }
     Ok(seen)
 }

@@ -210,7 +210,7 @@ fn carry_out<S: Source, O: Sink>(
 /// reads a source and writes its outputs on the public inputs P and the secrets S as one word of elements
 /// and a line feed; `run P S seed X` and `run P S tape X`, which read a bundle and write, for each output
 /// of its code on P and S, a line with its number, the word of its shares and the word of their sum;
-/// `count P A B Q`, which reads a bundle and writes, for each list of values that the places Q of a run of its code
+/// `count P A B Q`, which reads a bundle and writes, for each list of values that the positions Q of a run of its code
 /// show on P and the secrets A or on P and the secrets B, a line with the word of these values and the number of
 /// tapes for A and for B, and then `equal` or `differs`; `report`, which reads a bundle, checks it, and writes what
 /// its values cost and which places of products they reach; `gen K`, K being a decimal number from 1 to 3,276, which

@@ -31,24 +31,28 @@ use Rattle.mk_types.specs.Meaning.{map_of, combined, expr_layer_value, expr_valu
 
 -- indexes
 module _ (at : Place) (turns : List Turn) where
+  -- the value and the units of a number
   pub evaluated-Num : (n : ℕ) → evaluated at turns (index.Num n) ≡ record { value = n; units = [] }
   unfolding evaluated linked
   evaluated-Num n =
       ap (evaluated at turns) (sym (index_views.rolls-Num n))
       ∙ fold-roll-Index Evaluated (ℕ → Evaluated) (index_layer at turns) (link_layer at) (Index-F.Num n)
 
+  -- the value and the units of a loop's name
   pub evaluated-Var : (name : List ℕ) (name_at : Place) → evaluated at turns (index.Var name name_at) ≡ record { value = turn_number turns name; units = [] }
   unfolding evaluated linked
   evaluated-Var name name_at =
       ap (evaluated at turns) (sym (index_views.rolls-Var name name_at))
       ∙ fold-roll-Index Evaluated (ℕ → Evaluated) (index_layer at turns) (link_layer at) (Index-F.Var name name_at)
 
+  -- the value and the units of a sum
   pub evaluated-Sum : (parts : List Index) → evaluated at turns (index.Sum parts) ≡ sum_of_parts at (map (evaluated at turns) parts)
   unfolding evaluated linked
   evaluated-Sum parts =
       ap (evaluated at turns) (sym (index_views.rolls-Sum parts))
       ∙ fold-roll-Index Evaluated (ℕ → Evaluated) (index_layer at turns) (link_layer at) (Index-F.Sum parts)
 
+  -- the value and the units of a chain of factors
   pub evaluated-Chain : (first : Index) (links : List Link) →
       evaluated at turns (index.Chain first links) ≡ fold behind (evaluated at turns first) (map (linked at turns) links)
   unfolding evaluated linked
@@ -56,6 +60,7 @@ module _ (at : Place) (turns : List Turn) where
       ap (evaluated at turns) (sym (index_views.rolls-Chain first links))
       ∙ fold-roll-Index Evaluated (ℕ → Evaluated) (index_layer at turns) (link_layer at) (Index-F.Chain first links)
 
+  -- what is made of an index by a factor
   pub linked-Times : (by : Index) (so_far : ℕ) →
       linked at turns (link.Times by) so_far ≡ link_layer at (Link-F.Times (evaluated at turns by)) so_far
   unfolding evaluated linked
@@ -63,6 +68,7 @@ module _ (at : Place) (turns : List Turn) where
       ap (λ l. linked at turns l so_far) (sym (index_views.rolls-Times by))
       ∙ ap (λ (f : ℕ → Evaluated). f so_far) (fold-roll-Link Evaluated (ℕ → Evaluated) (index_layer at turns) (link_layer at) (Link-F.Times by))
 
+  -- what is made of an index by a remainder
   pub linked-Mod : (n so_far : ℕ) → linked at turns (link.Mod n) so_far ≡ link_layer at (Link-F.Mod n) so_far
   unfolding evaluated linked
   linked-Mod n so_far =
@@ -78,32 +84,38 @@ pub ruleset evaluated_layers = (evaluated-Num, evaluated-Var, evaluated-Sum, eva
 
 -- the units of expressions
 module _ (decls : List Decl) (turns : List Turn) where
+  -- the units of an element
   pub units-Lit : (value : ℕ) (at : Place) → expr_units decls turns (expr.Lit value at) ≡ []
   unfolding expr_units
   units-Lit value at =
       ap (expr_units decls turns) (sym (expr_views.rolls-Lit value at)) ∙ fold-roll-Expr (List WorkUnit) (expr_layer_units decls turns) (Expr-F.Lit value at)
 
+  -- the units of a variable that is read
   pub units-Read : (from : Ref) → expr_units decls turns (expr.Read from) ≡ reference_units decls turns from
   unfolding expr_units
   units-Read from =
       ap (expr_units decls turns) (sym (expr_views.rolls-Read from)) ∙ fold-roll-Expr (List WorkUnit) (expr_layer_units decls turns) (Expr-F.Read from)
 
+  -- the units of a square
   pub units-Sq : (arg : Expr) → expr_units decls turns (expr.Sq arg) ≡ expr_units decls turns arg ++ Operation ∷ []
   unfolding expr_units
   units-Sq arg =
       ap (expr_units decls turns) (sym (expr_views.rolls-Sq arg)) ∙ fold-roll-Expr (List WorkUnit) (expr_layer_units decls turns) (Expr-F.Sq arg)
 
+  -- the units of a map that is applied
   pub units-Apply : (name : List ℕ) (at : Place) (arg : Expr) → expr_units decls turns (expr.Apply name at arg) ≡ expr_units decls turns arg ++ Operation ∷ []
   unfolding expr_units
   units-Apply name at arg =
       ap (expr_units decls turns) (sym (expr_views.rolls-Apply name at arg))
       ∙ fold-roll-Expr (List WorkUnit) (expr_layer_units decls turns) (Expr-F.Apply name at arg)
 
+  -- the units of a sum
   pub units-Sum : (parts : List Expr) → expr_units decls turns (expr.Sum parts) ≡ parts_units (map (expr_units decls turns) parts)
   unfolding expr_units
   units-Sum parts =
       ap (expr_units decls turns) (sym (expr_views.rolls-Sum parts)) ∙ fold-roll-Expr (List WorkUnit) (expr_layer_units decls turns) (Expr-F.Sum parts)
 
+  -- the units of a product
   pub units-Product : (parts : List Expr) → expr_units decls turns (expr.Product parts) ≡ parts_units (map (expr_units decls turns) parts)
   unfolding expr_units
   units-Product parts =
@@ -113,6 +125,7 @@ pub ruleset expr_units_layers = (units-Lit, units-Read, units-Sq, units-Apply, u
 
 -- the units of statements
 module _ (decls : List Decl) where
+  -- the units of an assignment
   pub units-Set : (target : Ref) (value : Expr) (turns : List Turn) →
       stmt_units decls (stmt.Set target value) turns ≡ Step ∷ expr_units decls turns value ++ reference_units decls turns target
   unfolding stmt_units
@@ -120,6 +133,7 @@ module _ (decls : List Decl) where
       ap (λ s. stmt_units decls s turns) (sym (stmt_views.rolls-Set target value))
       ∙ ap (λ (f : List Turn → List WorkUnit). f turns) (fold-roll-Stmt (List Turn → List WorkUnit) (stmt_layer_units decls) (Stmt-F.Set target value))
 
+  -- the units of a loop
   pub units-Loop : (name : List ℕ) (at : Place) (from to : ℕ) (body : List Stmt) (turns : List Turn) →
       stmt_units decls (stmt.Loop name at from to body) turns
       ≡ Step ∷ flat_map (λ number. turn_units (map (stmt_units decls) body) (in_turn turns name number)) (turn_numbers from to)
@@ -133,22 +147,26 @@ pub ruleset stmt_units_layers = (units-Set, units-Loop)
 
 -- the values of expressions
 module _ (field : FieldId) (decls : List Decl) (turns : List Turn) (env : Environment ℕ) where
+  -- the value of an element
   pub value-Lit : (value : ℕ) (at : Place) → expr_value field decls turns env (expr.Lit value at) ≡ value
   unfolding expr_value
   value-Lit value at =
       ap (expr_value field decls turns env) (sym (expr_views.rolls-Lit value at)) ∙ fold-roll-Expr ℕ (expr_layer_value field decls turns env) (Expr-F.Lit value at)
 
+  -- the value of a variable that is read
   pub value-Read : (from : Ref) →
       expr_value field decls turns env (expr.Read from) ≡ element env (number_of decls from.name) (element_number turns from) 0
   unfolding expr_value
   value-Read from =
       ap (expr_value field decls turns env) (sym (expr_views.rolls-Read from)) ∙ fold-roll-Expr ℕ (expr_layer_value field decls turns env) (Expr-F.Read from)
 
+  -- the value of a square
   pub value-Sq : (arg : Expr) → expr_value field decls turns env (expr.Sq arg) ≡ square field (expr_value field decls turns env arg)
   unfolding expr_value
   value-Sq arg =
       ap (expr_value field decls turns env) (sym (expr_views.rolls-Sq arg)) ∙ fold-roll-Expr ℕ (expr_layer_value field decls turns env) (Expr-F.Sq arg)
 
+  -- the value of a map that is applied
   pub value-Apply : (name : List ℕ) (at : Place) (arg : Expr) →
       expr_value field decls turns env (expr.Apply name at arg) ≡ image (map_of decls name) (expr_value field decls turns env arg)
   unfolding expr_value
@@ -156,12 +174,14 @@ module _ (field : FieldId) (decls : List Decl) (turns : List Turn) (env : Enviro
       ap (expr_value field decls turns env) (sym (expr_views.rolls-Apply name at arg))
       ∙ fold-roll-Expr ℕ (expr_layer_value field decls turns env) (Expr-F.Apply name at arg)
 
+  -- the value of a sum
   pub value-Sum : (parts : List Expr) →
       expr_value field decls turns env (expr.Sum parts) ≡ combined bit_xor (map (expr_value field decls turns env) parts)
   unfolding expr_value
   value-Sum parts =
       ap (expr_value field decls turns env) (sym (expr_views.rolls-Sum parts)) ∙ fold-roll-Expr ℕ (expr_layer_value field decls turns env) (Expr-F.Sum parts)
 
+  -- the value of a product
   pub value-Product : (parts : List Expr) →
       expr_value field decls turns env (expr.Product parts) ≡ combined (product field) (map (expr_value field decls turns env) parts)
   unfolding expr_value
@@ -173,6 +193,7 @@ pub ruleset value_layers = (value-Lit, value-Read, value-Sq, value-Apply, value-
 
 -- what statements do
 module _ (field : FieldId) (decls : List Decl) (turns : List Turn) (env : Environment ℕ) where
+  -- the meaning of an assignment
   pub meaning-Set : (target : Ref) (value : Expr) → stmt_meaning field decls (stmt.Set target value) turns env
       ≡ stored env (number_of decls target.name) (element_number turns target) (expr_value field decls turns env value)
   unfolding stmt_meaning
@@ -181,6 +202,7 @@ module _ (field : FieldId) (decls : List Decl) (turns : List Turn) (env : Enviro
       ∙ ap (λ (f : List Turn → Environment ℕ → Environment ℕ). f turns env)
       (fold-roll-Stmt (List Turn → Environment ℕ → Environment ℕ) (stmt_layer_meaning field decls) (Stmt-F.Set target value))
 
+  -- the meaning of a loop
   pub meaning-Loop : (name : List ℕ) (at : Place) (from to : ℕ) (body : List Stmt) →
       stmt_meaning field decls (stmt.Loop name at from to body) turns env
       ≡ fold (λ now number. fold (λ here part. part (in_turn turns name number) here) now (map (stmt_meaning field decls) body)) env (turn_numbers from to)

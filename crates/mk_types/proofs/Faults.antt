@@ -7,7 +7,7 @@ use Rattle.mk_ast.specs.declared.tree.Program.{Program}
 use Rattle.mk_types.specs.Units.{WorkUnit, Step, Operation, Fault, up_to_fault, stmt_units, units}
 use Rattle.mk_types.specs.Stops.{Event, Work, Operations, is_work, is_operation, work, operations, event, earlier, stop_behind, stop}
 
--- a step or an operation
+-- a unit that is no fault: a step or an operation
 abbrev pub IsNoFault : WorkUnit → Type 0
 IsNoFault Step = Unit {0}
 IsNoFault Operation = Unit {0}

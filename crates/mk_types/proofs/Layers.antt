@@ -69,27 +69,33 @@ module _ (decls : List Decl) where
   abbrev shared_name : List ℕ → Bool
   shared_name name = is_variable is_shared_class (declared decls name)
 
+  -- whether a shared name occurs in an element
   pub shared-Lit : (value : ℕ) (at : Place) → is_shared decls (expr.Lit value at) ≡ false
   unfolding is_shared
   shared-Lit value at = ap (list_any shared_name) (names-Lit value at)
 
+  -- whether a shared name occurs in a variable that is read
   pub shared-Read : (from : Ref) → is_shared decls (expr.Read from) ≡ is_variable is_shared_class (declared decls from.name)
   unfolding is_shared
   shared-Read from = ap (list_any shared_name) (names-Read from) ∙ or-false _
 
+  -- whether a shared name occurs in a square
   pub shared-Sq : (arg : Expr) → is_shared decls (expr.Sq arg) ≡ is_shared decls arg
   unfolding is_shared
   shared-Sq arg = ap (list_any shared_name) (names-Sq arg)
 
+  -- whether a shared name occurs in a map that is applied
   pub shared-Apply : (name : List ℕ) (at : Place) (arg : Expr) →
       is_shared decls (expr.Apply name at arg) ≡ (is_variable is_shared_class (declared decls name) || is_shared decls arg)
   unfolding is_shared
   shared-Apply name at arg = ap (list_any shared_name) (names-Apply name at arg)
 
+  -- whether a shared name occurs in a sum
   pub shared-Sum : (parts : List Expr) → is_shared decls (expr.Sum parts) ≡ list_any (is_shared decls) parts
   unfolding is_shared
   shared-Sum parts = ap (list_any shared_name) (names-Sum parts) ∙ list_any_flat_map shared_name names parts
 
+  -- whether a shared name occurs in a product
   pub shared-Product : (parts : List Expr) → is_shared decls (expr.Product parts) ≡ list_any (is_shared decls) parts
   unfolding is_shared
   shared-Product parts = ap (list_any shared_name) (names-Product parts) ∙ list_any_flat_map shared_name names parts
@@ -104,12 +110,14 @@ module _ (s : Scope) where
       ap (index_offences s) (sym (index_views.rolls-Num n))
       ∙ fold-roll-Index (List Offence) (List Offence) (index_layer_offences s) (link_layer_offences s) (Index-F.Num n)
 
+  -- the offences of a loop's name
   pub index-Var : (name : List ℕ) (at : Place) → index_offences s (index.Var name at) ≡ index_name_offences s name at
   unfolding index_offences link_offences
   index-Var name at =
       ap (index_offences s) (sym (index_views.rolls-Var name at))
       ∙ fold-roll-Index (List Offence) (List Offence) (index_layer_offences s) (link_layer_offences s) (Index-F.Var name at)
 
+  -- the offences of a sum
   pub index-Sum : (parts : List Index) → index_offences s (index.Sum parts) ≡ flat_map (index_offences s) parts
   unfolding index_offences link_offences
   index-Sum parts =
@@ -117,6 +125,7 @@ module _ (s : Scope) where
       ∙ fold-roll-Index (List Offence) (List Offence) (index_layer_offences s) (link_layer_offences s) (Index-F.Sum parts)
       ∙ flat_map-map _ _ parts
 
+  -- the offences of a chain of factors
   pub index-Chain : (first : Index) (links : List Link) →
       index_offences s (index.Chain first links) ≡ index_offences s first ++ flat_map (link_offences s) links
   unfolding index_offences link_offences
@@ -125,12 +134,14 @@ module _ (s : Scope) where
       ∙ fold-roll-Index (List Offence) (List Offence) (index_layer_offences s) (link_layer_offences s) (Index-F.Chain first links)
       ∙ ap (λ t. index_offences s first ++ t) (flat_map-map _ _ links)
 
+  -- the offences of a factor
   pub link-Times : (by : Index) → link_offences s (link.Times by) ≡ index_offences s by
   unfolding index_offences link_offences
   link-Times by =
       ap (link_offences s) (sym (index_views.rolls-Times by))
       ∙ fold-roll-Link (List Offence) (List Offence) (index_layer_offences s) (link_layer_offences s) (Link-F.Times by)
 
+  -- the offences of a remainder
   pub link-Mod : (n : ℕ) → link_offences s (link.Mod n) ≡ []
   unfolding index_offences link_offences
   link-Mod n =
@@ -143,26 +154,31 @@ module _ (s : Scope) where
   expr-Lit value at =
       ap (expr_offences s) (sym (expr_views.rolls-Lit value at)) ∙ fold-roll-Expr (List Offence) (expr_layer_offences s) (Expr-F.Lit value at)
 
+  -- the offences of a variable that is read
   pub expr-Read : (from : Ref) → expr_offences s (expr.Read from) ≡ reference_offences s from
   unfolding expr_offences
   expr-Read from = ap (expr_offences s) (sym (expr_views.rolls-Read from)) ∙ fold-roll-Expr (List Offence) (expr_layer_offences s) (Expr-F.Read from)
 
+  -- the offences of a square
   pub expr-Sq : (arg : Expr) → expr_offences s (expr.Sq arg) ≡ expr_offences s arg
   unfolding expr_offences
   expr-Sq arg = ap (expr_offences s) (sym (expr_views.rolls-Sq arg)) ∙ fold-roll-Expr (List Offence) (expr_layer_offences s) (Expr-F.Sq arg)
 
+  -- the offences of a map that is applied
   pub expr-Apply : (name : List ℕ) (at : Place) (arg : Expr) →
       expr_offences s (expr.Apply name at arg) ≡ map_name_offences s name at ++ expr_offences s arg
   unfolding expr_offences
   expr-Apply name at arg =
       ap (expr_offences s) (sym (expr_views.rolls-Apply name at arg)) ∙ fold-roll-Expr (List Offence) (expr_layer_offences s) (Expr-F.Apply name at arg)
 
+  -- the offences of a sum
   pub expr-Sum : (parts : List Expr) → expr_offences s (expr.Sum parts) ≡ flat_map (expr_offences s) parts
   unfolding expr_offences
   expr-Sum parts =
       ap (expr_offences s) (sym (expr_views.rolls-Sum parts)) ∙ fold-roll-Expr (List Offence) (expr_layer_offences s) (Expr-F.Sum parts)
       ∙ flat_map-map _ _ parts
 
+  -- the offences of a product
   pub expr-Product : (parts : List Expr) → expr_offences s (expr.Product parts) ≡ flat_map (expr_offences s) parts
   unfolding expr_offences
   expr-Product parts =

@@ -5,7 +5,7 @@ use Rattle.std.specs.List.{AllByRecursion, list_any}
 use Rattle.std.proofs.Math.Bool.{or-false}
 use Rattle.mk_base.specs.declared.Place.{Place}
 use Rattle.mk_field.specs.declared.map.AddMap.{AddMap}
-use Rattle.mk_field.specs.Field.{size, product, square, image}
+use Rattle.mk_field.specs.Field.{size, product, square, image, image_by}
 use Rattle.mk_ast.specs.declared.tree.Ref.{Ref}
 use Rattle.mk_ast.specs.declared.tree.Expr.{Expr}
 use Rattle.mk_ast.specs.declared.tree.Expr.TheVariants as expr
@@ -16,7 +16,6 @@ use Rattle.mk_ssa.specs.declared.Operand.TheVariants.{Block}
 use Rattle.mk_ssa.specs.declared.Op.{Op}
 use Rattle.mk_ssa.specs.declared.Op.TheVariants.{Const}
 use Rattle.mk_ssa.specs.Values.{IsDraft}
-use Rattle.mk_ssa.specs.Denoted.{image_by}
 use Rattle.mk_types.specs.declared.offence.OffenceKind.TheVariants as kind_
 use Rattle.mk_types.specs.Scope.{Scope, declared, is_variable, is_shared_class, is_shared}
 use Rattle.mk_types.specs.Turns.{Turn}

@@ -3,7 +3,7 @@
 use Rattle.std.proofs.Common.{◌≡◌, ℕ, ◌+◌, ◌<◌, Bool, true, false, not, ◌||◌, List, [], ◌∷◌, ◌++◌, length, slice_get, slice_index, bit_xor, refl, ap, ◌∙◌, arith}
 use Rattle.std.proofs.lemmas.List.{get_or_append_left, get_or_push}
 use Rattle.mk_field.specs.declared.field.FieldId.{FieldId}
-use Rattle.mk_field.specs.Field.{size, product, square}
+use Rattle.mk_field.specs.Field.{size, product, square, image_by}
 use Rattle.mk_field.proofs.Sum.{sum-comm, sum-in_field}
 use Rattle.mk_field.proofs.Product.{product-comm, product-in_field, square-in_field}
 use Rattle.mk_ast.specs.declared.tree.Decl.{Decl}
@@ -13,7 +13,7 @@ use Rattle.mk_ssa.specs.declared.Op.{Op}
 use Rattle.mk_ssa.specs.declared.Op.TheVariants.{Const, Lift}
 use Rattle.mk_ssa.specs.Kinds.{is_public}
 use Rattle.mk_ssa.specs.Values.{Draft, IsDraft, IsSharedThere, IsPublicThere, Fits}
-use Rattle.mk_ssa.specs.Denoted.{operand_value, image_by, value_of, values_of}
+use Rattle.mk_ssa.specs.Denoted.{operand_value, value_of, values_of}
 use Rattle.mk_ssa.proofs.Lists.{IsSomeAnd-value, slice_get-at}
 use Rattle.mk_ssa.proofs.There.{IsSharedThere-pushed, IsPublicThere-pushed, IsSharedThere-last, IsPublicThere-last, IsDraft-pushed}
 use Rattle.mk_ssa.proofs.InOrder.{in_order-push, length-in_order}

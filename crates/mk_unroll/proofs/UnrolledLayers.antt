@@ -30,6 +30,7 @@ module _ (decls : List Decl) (turns : List Turn) (env : Environment Operand) whe
       ap (λ e. expr_given decls turns env e values) (sym (expr_views.rolls-Lit value at))
       ∙ ap (λ (f : List Op → Given). f values) (fold-roll-Expr (List Op → Given) (expr_layer_given decls turns env) (Expr-F.Lit value at))
 
+  -- what is unrolled of a variable that is read
   pub given-Read : (from : Ref) (values : List Op) →
       expr_given decls turns env (expr.Read from) values ≡ expr_layer_given decls turns env (Expr-F.Read from) values
   unfolding expr_given
@@ -37,6 +38,7 @@ module _ (decls : List Decl) (turns : List Turn) (env : Environment Operand) whe
       ap (λ e. expr_given decls turns env e values) (sym (expr_views.rolls-Read from))
       ∙ ap (λ (f : List Op → Given). f values) (fold-roll-Expr (List Op → Given) (expr_layer_given decls turns env) (Expr-F.Read from))
 
+  -- what is unrolled of a square
   pub given-Sq : (arg : Expr) (values : List Op) →
       expr_given decls turns env (expr.Sq arg) values ≡ expr_layer_given decls turns env (Expr-F.Sq (expr_given decls turns env arg)) values
   unfolding expr_given
@@ -44,6 +46,7 @@ module _ (decls : List Decl) (turns : List Turn) (env : Environment Operand) whe
       ap (λ e. expr_given decls turns env e values) (sym (expr_views.rolls-Sq arg))
       ∙ ap (λ (f : List Op → Given). f values) (fold-roll-Expr (List Op → Given) (expr_layer_given decls turns env) (Expr-F.Sq arg))
 
+  -- what is unrolled of a map that is applied
   pub given-Apply : (name : List ℕ) (at : Place) (arg : Expr) (values : List Op) →
       expr_given decls turns env (expr.Apply name at arg) values
       ≡ expr_layer_given decls turns env (Expr-F.Apply name at (expr_given decls turns env arg)) values
@@ -52,6 +55,7 @@ module _ (decls : List Decl) (turns : List Turn) (env : Environment Operand) whe
       ap (λ e. expr_given decls turns env e values) (sym (expr_views.rolls-Apply name at arg))
       ∙ ap (λ (f : List Op → Given). f values) (fold-roll-Expr (List Op → Given) (expr_layer_given decls turns env) (Expr-F.Apply name at arg))
 
+  -- what is unrolled of a sum
   pub given-Sum : (parts : List Expr) (values : List Op) →
       expr_given decls turns env (expr.Sum parts) values
       ≡ expr_layer_given decls turns env (Expr-F.Sum (map (expr_given decls turns env) parts)) values
@@ -60,6 +64,7 @@ module _ (decls : List Decl) (turns : List Turn) (env : Environment Operand) whe
       ap (λ e. expr_given decls turns env e values) (sym (expr_views.rolls-Sum parts))
       ∙ ap (λ (f : List Op → Given). f values) (fold-roll-Expr (List Op → Given) (expr_layer_given decls turns env) (Expr-F.Sum parts))
 
+  -- what is unrolled of a product
   pub given-Product : (parts : List Expr) (values : List Op) →
       expr_given decls turns env (expr.Product parts) values
       ≡ expr_layer_given decls turns env (Expr-F.Product (map (expr_given decls turns env) parts)) values
@@ -72,6 +77,7 @@ pub ruleset given_layers = (given-Lit, given-Read, given-Sq, given-Apply, given-
 
 -- what statements do
 module _ (decls : List Decl) (turns : List Turn) (now : Unrolling) where
+  -- what is unrolled of an assignment
   pub unrolled-Set : (target : Ref) (value : Expr) →
       stmt_unrolled decls (stmt.Set target value) turns now ≡ assignment_unrolled decls target value turns now
   unfolding stmt_unrolled
@@ -80,6 +86,7 @@ module _ (decls : List Decl) (turns : List Turn) (now : Unrolling) where
       ∙ ap (λ (f : List Turn → Unrolling → Unrolling). f turns now)
       (fold-roll-Stmt (List Turn → Unrolling → Unrolling) (stmt_layer_unrolled decls) (Stmt-F.Set target value))
 
+  -- what is unrolled of a loop
   pub unrolled-Loop : (name : List ℕ) (at : Place) (from to : ℕ) (body : List Stmt) →
       stmt_unrolled decls (stmt.Loop name at from to body) turns now
       ≡ fold (λ so_far number. fold (λ here part. part (in_turn turns name number) here) so_far (map (stmt_unrolled decls) body)) now (turn_numbers from to)

@@ -38,8 +38,8 @@ pub enum InputFault {
     Element { which: Which, index: u32 },
     /// The whole tape has so many elements, and at least so many are wanted.
     TapeShort { given: u32, wanted: u32 },
-    /// There are more probes than this number, the order; or the probe of this number, from 0, is no place
-    /// of the trace.
+    /// There are more probes than this number, the order; or the probe of this number, from 0, is no
+    /// position of the trace.
     Probe { index: u32 },
 }
 

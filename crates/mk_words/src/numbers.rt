@@ -5,8 +5,7 @@ ghost use Rattle.mk_words.specs.Words.{SaysProbes};
 ghost use Rattle.mk_words.specs.Forms.{AreProbes};
 ghost use Rattle.mk_words.specs.Numbers.{IsNumber};
 
-use itoa::Buffer;
-use mk_base::{Items, Memory};
+use mk_base::{Items, Memory, decimal_number};
 use std::alloc::Global;
 
 /// The number below 2^32 that a word says.
@@ -14,17 +13,7 @@ pub(crate) fn number_of(word: &[u8]) -> Option<u32>
     ensures found { IfSome result (λ number. word.now ≡ decimal number) }
     ensures none { IfNone result ((number : ℕ) → number < 2 ^ 32 → word.now ≡ decimal number → ⊥) }
 {
-    let Ok(text) = str::from_utf8(word) else {
-        return None;
-    };
-    let Ok(number) = text.parse::<u32>() else {
-        return None;
-    };
-    if Buffer::new().format(number) == text {
-        Some(number)
-    } else {
-        None
-    }
+    decimal_number(word, u32::MAX)
 }
 
 /// Whether a word says a number below 2^32.

@@ -1,66 +1,17 @@
--- Line after line; where one does not go on, it is the line that is named.
-use Rattle.std.proofs.Common.{◌≡◌, ℕ, [], true, sym, subst, arith}
+-- The line is that of all bytes.
+use Rattle.std.proofs.Common.{◌≡◌, ℕ, [], Some, subst, ◌∙◌}
 use Rattle.mk_lines.specs.Lines.{NamesFirst}
 use Rattle.mk_bundle.specs.Pairs.{IsBundleText}
-use Rattle.mk_bundle.specs.Reading.{state_of}
-use Rattle.mk_lines.proofs.Steps.{some_bytes, no_bytes}
-use Rattle.mk_bundle.proofs.Naming.{Progress, begun, further, bounds, reached, number_small, names, no_text, whole_text, stuck_at, stuck_end, some_left, same_pair}
+use Rattle.mk_bundle.specs.declared.refusal.StreamRefusal.{StreamRefusal}
+use Rattle.mk_bundle.specs.declared.refusal.StreamRefusal.TheVariants as refusals
+use Rattle.mk_bundle.specs.Reads.{Denies}
+use Rattle.mk_bundle.proofs.Ending.{all_came}
 use Rattle.mk_bundle.proofs.read.read_bundle.Goals as goal
-
-pub loop-line-init : goal.loop-line-init
-loop-line-init c = subst (Progress c.args.text.now c.args.text.now 1) (sym c.empty_draft-draft.ensures) (begun c.args.text.now)
-
-pub read_line-requires : goal.read_line-requires
-read_line-requires c = bounds c.loop-line.invariant.lines (state_of c.loop-line.draft) c.loop-line.invariant.read
-
-pub returns-in-Err-Form-clause-only : goal.returns-in-Err-Form-clause-only
-returns-in-Err-Form-clause-only c = λ line e. (
-    no_text c.args.text.now c.loop-line.rest.now c.loop-line.number (state_of c.loop-line.draft) c.loop-line.invariant
-    (stuck_at (state_of c.loop-line.draft) c.loop-line.rest.now c.in-Some.line.now c.in-Some.behind.now c.in-Some.ensures.0 c.in-Some.ensures.1 (rw c.in-Err-Form.field-0-is at c.in-Err-Form.ensures))
-    (λ none ended. some_left c.loop-line.rest.now c.in-Some.line.now c.in-Some.behind.now c.in-Some.ensures.1 none))
 
 pub returns-in-Err-Form-clause-form : goal.returns-in-Err-Form-clause-form
 returns-in-Err-Form-clause-form c = λ line e. (
-    let same : c.loop-line.number ≡ line = cc in
-    subst (λ (n : ℕ). NamesFirst IsBundleText n c.args.text.now) same
-    (names c.args.text.now c.loop-line.rest.now c.loop-line.number (state_of c.loop-line.draft) c.loop-line.invariant
-    (stuck_at (state_of c.loop-line.draft) c.loop-line.rest.now c.in-Some.line.now c.in-Some.behind.now c.in-Some.ensures.0 c.in-Some.ensures.1 (rw c.in-Err-Form.field-0-is at c.in-Err-Form.ensures))))
-
-pub overflow_add-number : goal.overflow_add-number
-overflow_add-number c = omega (arith, number_small c.args.text.now c.loop-line.rest.now c.loop-line.number (state_of c.loop-line.draft) c.loop-line.invariant, c.requires)
-
-pub loop-line-preserved : goal.loop-line-preserved
-loop-line-preserved c =
-    further c.args.text.now c.loop-line.rest.now c.in-Some.line.now c.in-Some.behind.now c.loop-line.number (state_of c.loop-line.draft) (state_of c.read_line.new.draft) c.loop-line.invariant
-    c.in-Some.ensures.0 c.in-Some.ensures.1 c.in-Ok.ensures
-
-pub returns-then-not-is_empty-clause-only : goal.returns-then-not-is_empty-clause-only
-returns-then-not-is_empty-clause-only c = λ line e. (
-    no_text c.args.text.now c.loop-line.rest.now c.loop-line.number (state_of c.loop-line.draft) c.loop-line.invariant (stuck_end (state_of c.loop-line.draft) c.loop-line.rest.now c.in_default.ensures)
-    (λ none ended. some_bytes c.loop-line.rest.now c.is_empty.result c.is_empty.ensures c.if-not-is_empty.true none))
-
-pub returns-then-not-is_empty-clause-form : goal.returns-then-not-is_empty-clause-form
-returns-then-not-is_empty-clause-form c = λ line e. (
-    let same : c.loop-line.number ≡ line = cc in
-    subst (λ (n : ℕ). NamesFirst IsBundleText n c.args.text.now) same
-    (names c.args.text.now c.loop-line.rest.now c.loop-line.number (state_of c.loop-line.draft) c.loop-line.invariant (stuck_end (state_of c.loop-line.draft) c.loop-line.rest.now c.in_default.ensures)))
-
-pub returns-then-not-is_ended-clause-only : goal.returns-then-not-is_ended-clause-only
-returns-then-not-is_ended-clause-only c = λ line e. (
-    no_text c.args.text.now c.loop-line.rest.now c.loop-line.number (state_of c.loop-line.draft) c.loop-line.invariant (stuck_end (state_of c.loop-line.draft) c.loop-line.rest.now c.in_default.ensures)
-    (λ none ended. (let is : c.is_ended.result ≡ true = c.is_ended.ensures.1 ended in absurd (cc (is, c.if-not-is_ended.true)))))
-
-pub returns-then-not-is_ended-clause-form : goal.returns-then-not-is_ended-clause-form
-returns-then-not-is_ended-clause-form c = λ line e. (
-    let same : c.loop-line.number ≡ line = cc in
-    subst (λ (n : ℕ). NamesFirst IsBundleText n c.args.text.now) same
-    (names c.args.text.now c.loop-line.rest.now c.loop-line.number (state_of c.loop-line.draft) c.loop-line.invariant (stuck_end (state_of c.loop-line.draft) c.loop-line.rest.now c.in_default.ensures)))
-
-pub bundle_of-requires : goal.bundle_of-requires
-bundle_of-requires c = (reached c.loop-line.invariant.lines (state_of c.loop-line.draft) c.loop-line.invariant.read).0.pair.listing
-
-pub returns-clause-ok : goal.returns-clause-ok
-returns-clause-ok c =
-    let none : c.loop-line.rest.now ≡ [] = no_bytes c.loop-line.rest.now c.is_empty.result c.is_empty.ensures c.if-not-is_empty.false in
-    let h = whole_text c.args.text.now c.loop-line.rest.now c.loop-line.number (state_of c.loop-line.draft) c.loop-line.invariant none (c.is_ended.ensures.0 c.if-not-is_ended.false) in
-    same_pair c.args.text.now _ c.bundle_of.result.code _ c.bundle_of.result.cert c.bundle_of.ensures.code c.bundle_of.ensures.cert h
+    let same : c.in-Err-Form.line ≡ line = cc in
+    let h : Denies (refusals.Form c.in-Err-Form.line) 268435456 [] (Some c.new-source.result) (Some c.collect_bundle.new.src) =
+    subst (λ (r : StreamRefusal). Denies r 268435456 [] (Some c.new-source.result) (Some c.collect_bundle.new.src)) c.in-Err-Form.field-0-is c.in-Err-Form.ensures.collects in
+    let all : h.came ≡ c.args.text.now = all_came c.new-source.result h.came _ h.comes h.end ∙ c.new-source.ensures in
+    subst (λ (n : ℕ). NamesFirst IsBundleText n c.args.text.now) same (subst (NamesFirst IsBundleText c.in-Err-Form.line) all h.first))

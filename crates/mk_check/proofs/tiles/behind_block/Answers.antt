@@ -24,40 +24,40 @@ loop-instr-smaller c =
 
 pub loop-instr-preserved : goal.loop-instr-preserved
 loop-instr-preserved c =
-    let place : ℕ = c.args.start + c.loop-instr.next in
+    let position : ℕ = c.args.start + c.loop-instr.next in
     let wanted : slice_get (all_laid (shape_of c.args.code.now) c.args.templates.now c.args.blocks.now) (c.args.start + c.loop-instr.next) ≡ Some c.placed_instr-wanted.result =
     laid-wanted c.args.code.now c.args.templates.now c.args.blocks.now c.args.k c.args.op.now c.law.ensures.fits c.requires.wired c.requires.templates c.requires.op c.args.templates.now.shares c.args.start
     c.loop-instr.next (c.first_instr.result + c.args.start) c.args.reads.now c.in-Some.instr c.placed_instr-wanted.result c.requires.shares
-    (sym c.instr.ensures ∙ c.in-Some.is) c.requires.reads c.requires.start (ap (λ (m : ℕ). m + c.args.start) c.first_instr.ensures.place) c.placed_instr-wanted.ensures in
+    (sym c.instr.ensures ∙ c.in-Some.is) c.requires.reads c.requires.start (ap (λ (m : ℕ). m + c.args.start) c.first_instr.ensures.position) c.placed_instr-wanted.ensures in
     let same : c.as_slice-instrs.result.now ≡ c.args.code.now.instrs = c.as_slice-instrs.ensures.items ∙ c.instrs.ensures in
-    let found : slice_get c.args.code.now.instrs place ≡ Some c.in-Some-get.found.now =
-    found-at c.args.code.now.instrs c.as_slice-instrs.result.now place c.in-Some-get.found.now same c.in-Some-get.ensures.lookup.0 c.in-Some-get.ensures.lookup.1 in
-    let next : place + 1 ≡ c.args.start + (c.loop-instr.next + 1) = omega arith in
+    let found : slice_get c.args.code.now.instrs position ≡ Some c.in-Some-get.found.now =
+    found-at c.args.code.now.instrs c.as_slice-instrs.result.now position c.in-Some-get.found.now same c.in-Some-get.ensures.lookup.0 c.in-Some-get.ensures.lookup.1 in
+    let next : position + 1 ≡ c.args.start + (c.loop-instr.next + 1) = omega arith in
     record {
       agrees = subst (λ (m : ℕ). take m c.args.code.now.instrs ≡ take m (all_laid (shape_of c.args.code.now) c.args.templates.now c.args.blocks.now)) next
-          (agree-more c.args.code.now.instrs (all_laid (shape_of c.args.code.now) c.args.templates.now c.args.blocks.now) place c.in-Some-get.found.now c.placed_instr-wanted.result
+          (agree-more c.args.code.now.instrs (all_laid (shape_of c.args.code.now) c.args.templates.now c.args.blocks.now) position c.in-Some-get.found.now c.placed_instr-wanted.result
           c.loop-instr.invariant.agrees found wanted (c.if-are_same.ensures.0 refl));
-      inside = omega (arith, slice_get_within c.args.code.now.instrs place c.in-Some-get.found.now found);
+      inside = omega (arith, slice_get_within c.args.code.now.instrs position c.in-Some-get.found.now found);
       within = omega (arith, slice_get_within (template_of c.args.templates.now c.args.op.now).instrs c.loop-instr.next c.in-Some.instr (sym c.instr.ensures ∙ c.in-Some.is));
     }
 
 pub returns-in_default-get-clause-off : goal.returns-in_default-get-clause-off
 returns-in_default-get-clause-off c =
-    let place : ℕ = c.args.start + c.loop-instr.next in
+    let position : ℕ = c.args.start + c.loop-instr.next in
     let laid : List Instr = all_laid (shape_of c.args.code.now) c.args.templates.now c.args.blocks.now in
     let wanted : slice_get (all_laid (shape_of c.args.code.now) c.args.templates.now c.args.blocks.now) (c.args.start + c.loop-instr.next) ≡ Some c.placed_instr-wanted.result =
     laid-wanted c.args.code.now c.args.templates.now c.args.blocks.now c.args.k c.args.op.now c.law.ensures.fits c.requires.wired c.requires.templates c.requires.op c.args.templates.now.shares c.args.start
     c.loop-instr.next (c.first_instr.result + c.args.start) c.args.reads.now c.in-Some.instr c.placed_instr-wanted.result c.requires.shares
-    (sym c.instr.ensures ∙ c.in-Some.is) c.requires.reads c.requires.start (ap (λ (m : ℕ). m + c.args.start) c.first_instr.ensures.place) c.placed_instr-wanted.ensures in
+    (sym c.instr.ensures ∙ c.in-Some.is) c.requires.reads c.requires.start (ap (λ (m : ℕ). m + c.args.start) c.first_instr.ensures.position) c.placed_instr-wanted.ensures in
     let same : c.as_slice-instrs.result.now ≡ c.args.code.now.instrs = c.as_slice-instrs.ensures.items ∙ c.instrs.ensures in
     elim c.in_default-get.branch [
       | in_default-get-via-in-Some-get+else-are_same w ↦
-          other-at c.args.code.now.instrs laid place w.in-Some-get.found.now c.placed_instr-wanted.result c.loop-instr.invariant.agrees
-          (found-at c.args.code.now.instrs c.as_slice-instrs.result.now place w.in-Some-get.found.now same w.in-Some-get.ensures.lookup.0 w.in-Some-get.ensures.lookup.1) wanted
+          other-at c.args.code.now.instrs laid position w.in-Some-get.found.now c.placed_instr-wanted.result c.loop-instr.invariant.agrees
+          (found-at c.args.code.now.instrs c.as_slice-instrs.result.now position w.in-Some-get.found.now same w.in-Some-get.ensures.lookup.0 w.in-Some-get.ensures.lookup.1) wanted
           (λ e. false≢true (sym w.if-are_same.false ∙ w.are_same.ensures.1 e))
       | in_default-get-via-in_default-get w ↦
-          ended-at c.args.code.now.instrs laid place c.placed_instr-wanted.result c.loop-instr.invariant.agrees
-          (none-at c.args.code.now.instrs c.as_slice-instrs.result.now place same w.in_default-get.ensures.lookup.0) wanted
+          ended-at c.args.code.now.instrs laid position c.placed_instr-wanted.result c.loop-instr.invariant.agrees
+          (none-at c.args.code.now.instrs c.as_slice-instrs.result.now position same w.in_default-get.ensures.lookup.0) wanted
     ]
 
 pub returns-clause-end : goal.returns-clause-end

@@ -22,10 +22,10 @@ loop-public-preserved c =
     let bank : ℕ → List ℕ = λ k. (c.args.code.now.secrets * n + k) ∷ [] in
     let k : ℕ = c.loop-public.public in
     let shares : c.from-shares.result + 1 ≡ n = ap (λ (m : ℕ). m + 1) (c.from-shares.ensures ∙ c.order.ensures) in
-    let place : c.secrets.result * (c.from-shares.result + 1) + k ≡ c.args.code.now.secrets * n + k =
+    let position : c.secrets.result * (c.from-shares.result + 1) + k ≡ c.args.code.now.secrets * n + k =
     ap (λ (m : ℕ). c.secrets.result * m + k) shares ∙ ap (λ (s : ℕ). s * n + k) c.secrets.ensures in
     c.in_ok-push-2.ensures.ok
     ∙ ap (λ (bs : List (List ℕ)). bs ++ c.in_ok-range-2.field-0 ∷ []) c.loop-public.invariant
     ∙ append_assoc front (map bank (range_with_len 0 k)) (c.in_ok-range-2.field-0 ∷ [])
-    ∙ ap (λ (b : List ℕ). front ++ (map bank (range_with_len 0 k) ++ b ∷ [])) (c.in_ok-range-2.ensures ∙ ap (λ (p : ℕ). p ∷ []) place)
+    ∙ ap (λ (b : List ℕ). front ++ (map bank (range_with_len 0 k) ++ b ∷ [])) (c.in_ok-range-2.ensures ∙ ap (λ (p : ℕ). p ∷ []) position)
     ∙ ap (λ (bs : List (List ℕ)). front ++ bs) (sym (map-range_with_len_more bank 0 k k (omega arith)))

@@ -7,7 +7,7 @@ use Rattle.mk_ssa.specs.declared.Op.{Op}
 use Rattle.mk_ssa.specs.declared.Op.TheVariants.{Const}
 use Rattle.mk_gadget.specs.Gadget.{placed_outs}
 use Rattle.mk_gadget.specs.Template.{template}
-use Rattle.mk_check.specs.Gadgets.{far, template_of}
+use Rattle.mk_check.specs.Gadgets.{past_all_positions, template_of}
 use Rattle.mk_rules.specs.Shape.{shape_of}
 use Rattle.mk_rules.specs.Tiles.{laid, laid_banks, reads}
 use Rattle.mk_check.specs.Laying.{all_laid}
@@ -28,7 +28,7 @@ out_bank-requires-clause-outs c =
     let there : slice_get c.args.blocks.now c.loop-k.k ≡ Some op = slice_get-get_or c.args.blocks.now c.loop-k.k (Const 0) c.loop-k-test.true in
     let same : length (template_of c.args.templates.now op).instrs ≡ length (template (c.args.code.now.order + 1) c.args.templates.now.product c.args.templates.now.refresh op).instrs =
     ap (λ (n : ℕ). length (template n c.args.templates.now.product c.args.templates.now.refresh op).instrs) c.requires.shares in
-    subst (λ (n : ℕ). AllBelow far (template n c.args.templates.now.product c.args.templates.now.refresh op).outs) (sym c.requires.shares)
+    subst (λ (n : ℕ). AllBelow past_all_positions (template n c.args.templates.now.product c.args.templates.now.refresh op).outs) (sym c.requires.shares)
     (near-outs c.args.code.now c.args.templates.now c.args.blocks.now c.loop-k.k op c.law.ensures.fits c.requires.wired c.requires.templates there
     (omega (arith, same, c.in_ok-end.ensures.end, c.in_ok-end.ensures.within)))
 
@@ -48,9 +48,9 @@ loop-k-preserved c =
       );
       banks = c.in_ok-push.ensures.ok
           ∙ banks-wanted c.args.code.now c.args.templates.now c.args.blocks.now c.loop-k.k op c.law.ensures.fits c.requires.wired c.requires.templates there c.args.templates.now.shares c.loop-k.start
-          (c.first_instr.result + c.loop-k.start) c.loop-k.banks c.in_ok-places.places c.in_ok-out_bank.field-0 c.requires.shares c.loop-k.invariant.banks
-          (c.in_ok-places.ensures ∙ ap (λ (bs : List (List ℕ)). reads (shape_of c.args.code.now) bs op) c.as_slice.ensures.items) c.loop-k.invariant.start
-          (ap (λ (m : ℕ). m + c.loop-k.start) c.first_instr.ensures.place)
+          (c.first_instr.result + c.loop-k.start) c.loop-k.banks c.in_ok-positions.positions c.in_ok-out_bank.field-0 c.requires.shares c.loop-k.invariant.banks
+          (c.in_ok-positions.ensures ∙ ap (λ (bs : List (List ℕ)). reads (shape_of c.args.code.now) bs op) c.as_slice.ensures.items) c.loop-k.invariant.start
+          (ap (λ (m : ℕ). m + c.loop-k.start) c.first_instr.ensures.position)
           (c.in_ok-out_bank.ensures ∙ ap (λ (ps : List ℕ). placed_outs ps (c.first_instr.result + c.loop-k.start) (template_of c.args.templates.now op)) c.as_slice-in-loop-k-2.ensures.items);
       agrees = c.in_ok-end.ensures.agrees;
       within = c.in_ok-end.ensures.within;

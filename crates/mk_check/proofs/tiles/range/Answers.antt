@@ -1,4 +1,4 @@
--- One more place.
+-- One more position.
 use Rattle.std.proofs.Common.{◌++◌, ◌∷◌, [], ℕ, List, ap, sym, ◌∙◌, ◌+◌}
 use Rattle.mk_share.proofs.Banks.{range-more}
 use Rattle.mk_check.proofs.tiles.range.Goals as goal

@@ -1,4 +1,4 @@
--- An observer of few places sees nothing of some column.
+-- An observer of few positions sees nothing of some column.
 use Rattle.mk_code.proofs.Columns.{HasColumns-private, columns-depend}
 use Rattle.mk_code.proofs.laws.columns_law.Goals as goal
 

@@ -5,8 +5,8 @@ use Rattle.mk_rules.specs.Accepts.{IsAccepted}
 use Rattle.mk_rules.proofs.BuiltIn.{accepted_built_in-private}
 use Rattle.mk_rules.proofs.Pairing.{accepted-pair}
 use Rattle.mk_rules.specs.Shape.{Shape}
-use Rattle.mk_compile.specs.Emitting.{bare, code_of}
-use Rattle.mk_compile.proofs.Wires.{parts-wired, parts-bare, code-accepted}
+use Rattle.mk_compile.specs.Emitting.{shape_from, code_of}
+use Rattle.mk_compile.proofs.Wires.{parts-wired, parts-shape, code-accepted}
 use Rattle.mk_compile.proofs.bundle.bundle_of.Goals as goal
 
 pub emit_code-requires-clause-wired : goal.emit_code-requires-clause-wired
@@ -16,9 +16,9 @@ emit_code-requires-clause-wired c =
 
 pub returns-clause-accepted : goal.returns-clause-accepted
 returns-clause-accepted c =
-    let same : bare c.field.result c.args.order c.secrets.result c.publics.result c.in_ok-maps.maps
-    ≡ bare c.args.s.now.field c.args.order c.args.s.now.secrets c.args.s.now.publics c.args.s.now.maps =
-    parts-bare c.args.s.now c.args.order c.field.result c.secrets.result c.publics.result c.in_ok-maps.maps
+    let same : shape_from c.field.result c.args.order c.secrets.result c.publics.result c.in_ok-maps.maps
+    ≡ shape_from c.args.s.now.field c.args.order c.args.s.now.secrets c.args.s.now.publics c.args.s.now.maps =
+    parts-shape c.args.s.now c.args.order c.field.result c.secrets.result c.publics.result c.in_ok-maps.maps
     c.field.ensures c.secrets.ensures c.publics.ensures (c.in_ok-maps.ensures ∙ c.maps.ensures) in
     subst (λ (x : Listing). IsAccepted x c.args.cert) (sym (c.in_ok-code.ensures ∙ ap (λ (x : Shape). code_of x c.args.cert) same))
     (code-accepted c.args.order c.args.s.now c.args.cert c.requires.wired c.requires.claims c.requires.undoubled)

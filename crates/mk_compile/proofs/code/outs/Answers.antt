@@ -6,7 +6,7 @@ use Rattle.std.proofs.lemmas.List.Concat.{flat_map-append}
 use Rattle.std.proofs.lemmas.Nat.{mul-le}
 use Rattle.mk_ssa.specs.declared.Operand.{Operand}
 use Rattle.mk_ssa.specs.declared.Operand.TheVariants.{Secret}
-use Rattle.mk_compile.specs.Places.{bank_of}
+use Rattle.mk_compile.specs.Positions.{bank_of}
 use Rattle.mk_compile.proofs.code.outs.Goals as goal
 
 pub loop-claim-init : goal.loop-claim-init
@@ -35,8 +35,8 @@ from_vec-requires g c =
     mul-le c.loop-claim.claim-index g.row.N 65536 9 (omega (arith, c.loop-claim.auto.claim-index-end, c.requires.few_claims)) c.requires.shares in
     omega (arith, few, c.loop-claim.invariant.count)
 
-pub returns-clause-places : goal.returns-clause-places
-returns-clause-places g c =
+pub returns-clause-positions : goal.returns-clause-positions
+returns-clause-positions g c =
     c.from_vec.ensures ∙ c.loop-claim.invariant.items
     ∙ ap (flat_map (bank_of c.args.inputs.secrets c.args.blocks.now)) (take_all c.loop-claim.claim-index c.args.claims.now c.loop-claim-test.false)
 

@@ -1,7 +1,7 @@
--- The places of the claims so far.
+-- The positions of the claims so far.
 use Rattle.std.proofs.Common.{◌≡◌, ◌*◌, length, take}
 use Rattle.std.specs.List.{flat_map}
-use Rattle.mk_compile.specs.Places.{bank_of}
+use Rattle.mk_compile.specs.Positions.{bank_of}
 use Rattle.mk_compile.proofs.code.outs.Given as goal
 
 abbrev pub invariant-loop-claim : goal.invariant-loop-claim

@@ -3,12 +3,12 @@ use Rattle.std.proofs.Common.{rules, arith, ◌≤◌, ◌+◌, length, subst, s
 use Rattle.mk_ssa.specs.declared.Op.{Op}
 use Rattle.mk_ssa.specs.Kinds.{kind, shared_operands, public_operands}
 use Rattle.mk_gadget.specs.Template.{built_in}
-use Rattle.mk_compile.specs.Places.{HasMap}
+use Rattle.mk_compile.specs.Positions.{HasMap}
 use Rattle.mk_compile.proofs.Banks.{shared-before, public-before, shared-at, public-at, linear-len}
 use Rattle.mk_compile.proofs.emit.emit_shared.Goals as goal
 
 pub emit_lift-requires : goal.emit_lift-requires
-emit_lift-requires g c = (search rules, (c.requires.shares.0, (c.requires.order, (omega (arith, c.requires.few, linear-len g.row.N (omega (arith, c.requires.shares.0)) c.args.op (ap kind c.in-Lift.is)), public-before c.args.builder.now c.args.inputs.secrets c.args.inputs.publics c.args.blocks.now c.requires.order c.requires.secrets c.requires.publics c.requires.before c.in-Lift.arg c.public_place.result (public-at c.args.inputs.secrets c.args.inputs.publics (length c.args.builder.now.maps) c.args.blocks.now c.args.op c.requires.there 0 c.in-Lift.arg (ap (λ (o : Op). slice_get (public_operands o) 0) c.in-Lift.is)) c.public_place.ensures))))
+emit_lift-requires g c = (search rules, (c.requires.shares.0, (c.requires.order, (omega (arith, c.requires.few, linear-len g.row.N (omega (arith, c.requires.shares.0)) c.args.op (ap kind c.in-Lift.is)), public-before c.args.builder.now c.args.inputs.secrets c.args.inputs.publics c.args.blocks.now c.requires.order c.requires.secrets c.requires.publics c.requires.before c.in-Lift.arg c.public_position.result (public-at c.args.inputs.secrets c.args.inputs.publics (length c.args.builder.now.maps) c.args.blocks.now c.args.op c.requires.there 0 c.in-Lift.arg (ap (λ (o : Op). slice_get (public_operands o) 0) c.in-Lift.is)) c.public_position.ensures))))
 
 pub shared_bank-requires : goal.shared_bank-requires
 shared_bank-requires g c = (search rules, (search rules, (c.requires.shares.1, (c.requires.inputs.0, shared-at c.args.inputs.secrets c.args.inputs.publics (length c.args.builder.now.maps) c.args.blocks.now c.args.op c.requires.there 0 c.in-Add.left (ap (λ (o : Op). slice_get (shared_operands o) 0) c.in-Add.is)))))
@@ -22,20 +22,20 @@ emit_add-requires g c = (search rules, (c.requires.shares.0, (c.requires.order, 
 pub shared_bank-requires-in-AddPub : goal.shared_bank-requires-in-AddPub
 shared_bank-requires-in-AddPub g c = (search rules, (search rules, (c.requires.shares.1, (c.requires.inputs.0, shared-at c.args.inputs.secrets c.args.inputs.publics (length c.args.builder.now.maps) c.args.blocks.now c.args.op c.requires.there 0 c.in-AddPub.left (ap (λ (o : Op). slice_get (shared_operands o) 0) c.in-AddPub.is)))))
 
-pub public_place-requires-in-AddPub : goal.public_place-requires-in-AddPub
-public_place-requires-in-AddPub g c = (search rules, (c.requires.shares.1, (c.requires.inputs.0, (c.requires.inputs.1, public-at c.args.inputs.secrets c.args.inputs.publics (length c.args.builder.now.maps) c.args.blocks.now c.args.op c.requires.there 0 c.in-AddPub.right (ap (λ (o : Op). slice_get (public_operands o) 0) c.in-AddPub.is)))))
+pub public_position-requires-in-AddPub : goal.public_position-requires-in-AddPub
+public_position-requires-in-AddPub g c = (search rules, (c.requires.shares.1, (c.requires.inputs.0, (c.requires.inputs.1, public-at c.args.inputs.secrets c.args.inputs.publics (length c.args.builder.now.maps) c.args.blocks.now c.args.op c.requires.there 0 c.in-AddPub.right (ap (λ (o : Op). slice_get (public_operands o) 0) c.in-AddPub.is)))))
 
 pub emit_add_public-requires : goal.emit_add_public-requires
-emit_add_public-requires g c = (search rules, (c.requires.shares.0, (c.requires.order, (omega (arith, c.requires.few, linear-len g.row.N (omega (arith, c.requires.shares.0)) c.args.op (ap kind c.in-AddPub.is)), (shared-before c.args.builder.now c.args.inputs.secrets c.args.inputs.publics c.args.blocks.now c.requires.order c.requires.secrets c.requires.publics c.requires.before c.in-AddPub.left c.shared_bank-in-AddPub.result.regs (shared-at c.args.inputs.secrets c.args.inputs.publics (length c.args.builder.now.maps) c.args.blocks.now c.args.op c.requires.there 0 c.in-AddPub.left (ap (λ (o : Op). slice_get (shared_operands o) 0) c.in-AddPub.is)) c.shared_bank-in-AddPub.ensures.bank, public-before c.args.builder.now c.args.inputs.secrets c.args.inputs.publics c.args.blocks.now c.requires.order c.requires.secrets c.requires.publics c.requires.before c.in-AddPub.right c.public_place-in-AddPub.result (public-at c.args.inputs.secrets c.args.inputs.publics (length c.args.builder.now.maps) c.args.blocks.now c.args.op c.requires.there 0 c.in-AddPub.right (ap (λ (o : Op). slice_get (public_operands o) 0) c.in-AddPub.is)) c.public_place-in-AddPub.ensures)))))
+emit_add_public-requires g c = (search rules, (c.requires.shares.0, (c.requires.order, (omega (arith, c.requires.few, linear-len g.row.N (omega (arith, c.requires.shares.0)) c.args.op (ap kind c.in-AddPub.is)), (shared-before c.args.builder.now c.args.inputs.secrets c.args.inputs.publics c.args.blocks.now c.requires.order c.requires.secrets c.requires.publics c.requires.before c.in-AddPub.left c.shared_bank-in-AddPub.result.regs (shared-at c.args.inputs.secrets c.args.inputs.publics (length c.args.builder.now.maps) c.args.blocks.now c.args.op c.requires.there 0 c.in-AddPub.left (ap (λ (o : Op). slice_get (shared_operands o) 0) c.in-AddPub.is)) c.shared_bank-in-AddPub.ensures.bank, public-before c.args.builder.now c.args.inputs.secrets c.args.inputs.publics c.args.blocks.now c.requires.order c.requires.secrets c.requires.publics c.requires.before c.in-AddPub.right c.public_position-in-AddPub.result (public-at c.args.inputs.secrets c.args.inputs.publics (length c.args.builder.now.maps) c.args.blocks.now c.args.op c.requires.there 0 c.in-AddPub.right (ap (λ (o : Op). slice_get (public_operands o) 0) c.in-AddPub.is)) c.public_position-in-AddPub.ensures)))))
 
 pub shared_bank-requires-in-Scale : goal.shared_bank-requires-in-Scale
 shared_bank-requires-in-Scale g c = (search rules, (search rules, (c.requires.shares.1, (c.requires.inputs.0, shared-at c.args.inputs.secrets c.args.inputs.publics (length c.args.builder.now.maps) c.args.blocks.now c.args.op c.requires.there 0 c.in-Scale.left (ap (λ (o : Op). slice_get (shared_operands o) 0) c.in-Scale.is)))))
 
-pub public_place-requires-in-Scale : goal.public_place-requires-in-Scale
-public_place-requires-in-Scale g c = (search rules, (c.requires.shares.1, (c.requires.inputs.0, (c.requires.inputs.1, public-at c.args.inputs.secrets c.args.inputs.publics (length c.args.builder.now.maps) c.args.blocks.now c.args.op c.requires.there 0 c.in-Scale.right (ap (λ (o : Op). slice_get (public_operands o) 0) c.in-Scale.is)))))
+pub public_position-requires-in-Scale : goal.public_position-requires-in-Scale
+public_position-requires-in-Scale g c = (search rules, (c.requires.shares.1, (c.requires.inputs.0, (c.requires.inputs.1, public-at c.args.inputs.secrets c.args.inputs.publics (length c.args.builder.now.maps) c.args.blocks.now c.args.op c.requires.there 0 c.in-Scale.right (ap (λ (o : Op). slice_get (public_operands o) 0) c.in-Scale.is)))))
 
 pub emit_scale_public-requires : goal.emit_scale_public-requires
-emit_scale_public-requires g c = (search rules, (c.requires.shares.0, (c.requires.order, (omega (arith, c.requires.few, linear-len g.row.N (omega (arith, c.requires.shares.0)) c.args.op (ap kind c.in-Scale.is)), (shared-before c.args.builder.now c.args.inputs.secrets c.args.inputs.publics c.args.blocks.now c.requires.order c.requires.secrets c.requires.publics c.requires.before c.in-Scale.left c.shared_bank-in-Scale.result.regs (shared-at c.args.inputs.secrets c.args.inputs.publics (length c.args.builder.now.maps) c.args.blocks.now c.args.op c.requires.there 0 c.in-Scale.left (ap (λ (o : Op). slice_get (shared_operands o) 0) c.in-Scale.is)) c.shared_bank-in-Scale.ensures.bank, public-before c.args.builder.now c.args.inputs.secrets c.args.inputs.publics c.args.blocks.now c.requires.order c.requires.secrets c.requires.publics c.requires.before c.in-Scale.right c.public_place-in-Scale.result (public-at c.args.inputs.secrets c.args.inputs.publics (length c.args.builder.now.maps) c.args.blocks.now c.args.op c.requires.there 0 c.in-Scale.right (ap (λ (o : Op). slice_get (public_operands o) 0) c.in-Scale.is)) c.public_place-in-Scale.ensures)))))
+emit_scale_public-requires g c = (search rules, (c.requires.shares.0, (c.requires.order, (omega (arith, c.requires.few, linear-len g.row.N (omega (arith, c.requires.shares.0)) c.args.op (ap kind c.in-Scale.is)), (shared-before c.args.builder.now c.args.inputs.secrets c.args.inputs.publics c.args.blocks.now c.requires.order c.requires.secrets c.requires.publics c.requires.before c.in-Scale.left c.shared_bank-in-Scale.result.regs (shared-at c.args.inputs.secrets c.args.inputs.publics (length c.args.builder.now.maps) c.args.blocks.now c.args.op c.requires.there 0 c.in-Scale.left (ap (λ (o : Op). slice_get (shared_operands o) 0) c.in-Scale.is)) c.shared_bank-in-Scale.ensures.bank, public-before c.args.builder.now c.args.inputs.secrets c.args.inputs.publics c.args.blocks.now c.requires.order c.requires.secrets c.requires.publics c.requires.before c.in-Scale.right c.public_position-in-Scale.result (public-at c.args.inputs.secrets c.args.inputs.publics (length c.args.builder.now.maps) c.args.blocks.now c.args.op c.requires.there 0 c.in-Scale.right (ap (λ (o : Op). slice_get (public_operands o) 0) c.in-Scale.is)) c.public_position-in-Scale.ensures)))))
 
 pub shared_bank-requires-in-Sq : goal.shared_bank-requires-in-Sq
 shared_bank-requires-in-Sq g c = (search rules, (search rules, (c.requires.shares.1, (c.requires.inputs.0, shared-at c.args.inputs.secrets c.args.inputs.publics (length c.args.builder.now.maps) c.args.blocks.now c.args.op c.requires.there 0 c.in-Sq.arg (ap (λ (o : Op). slice_get (shared_operands o) 0) c.in-Sq.is)))))

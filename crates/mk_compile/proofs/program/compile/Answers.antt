@@ -4,8 +4,8 @@ use Rattle.mk_code.specs.Listing.{Listing}
 use Rattle.mk_ssa.specs.Values.{Values}
 use Rattle.mk_rules.specs.Claimed.{Claimed}
 use Rattle.mk_rules.specs.Wired.{Wired}
-use Rattle.mk_place.specs.Uses.{plain}
-use Rattle.mk_compile.specs.Emitting.{bare, code_of}
+use Rattle.mk_place.specs.Uses.{shape_of_values}
+use Rattle.mk_compile.specs.Emitting.{shape_from, code_of}
 use Rattle.mk_place.specs.Placed.{Placed}
 use Rattle.mk_place.specs.Different.{AllDifferButRefreshes}
 use Rattle.mk_compile.proofs.Compiling.{blocks-few, instrs-few, claims-count, code-correct}
@@ -39,10 +39,10 @@ returns-clause-correct c =
     subst (Placed c.in_ok-values.values) (sym c.in_ok-bundle.ensures.cert) c.in_ok-cert.ensures.placed in
     code-correct c.args.p.now c.args.order c.in_ok-unrolled.unrolled c.in_ok-values.values c.in_ok-bundle.bundle.cert
     c.in_ok-unrolled.ensures.values c.in_ok-values.ensures.simplified placed c.law-2.ensures
-    (subst (λ (x : Claimed). Wired (plain c.in_ok-values.values) x.blocks) (sym c.in_ok-bundle.ensures.cert) c.in_ok-cert.ensures.wired)
+    (subst (λ (x : Claimed). Wired (shape_of_values c.in_ok-values.values) x.blocks) (sym c.in_ok-bundle.ensures.cert) c.in_ok-cert.ensures.wired)
     c.in_ok-values.ensures.meaning c.law.ensures.regular c.law.ensures.typed c.in_ok-unrolled.ensures.ends
     c.in_ok-bundle.bundle.code
-    (c.in_ok-bundle.ensures.code ∙ ap (code_of (bare c.in_ok-values.values.field c.args.order c.in_ok-values.values.secrets c.in_ok-values.values.publics c.in_ok-values.values.maps)) (sym c.in_ok-bundle.ensures.cert))
+    (c.in_ok-bundle.ensures.code ∙ ap (code_of (shape_from c.in_ok-values.values.field c.args.order c.in_ok-values.values.secrets c.in_ok-values.values.publics c.in_ok-values.values.maps)) (sym c.in_ok-bundle.ensures.cert))
     c.in_ok-bundle.ensures.images c.in_ok-bundle.ensures.accepted
 
 pub returns-clause-maps : goal.returns-clause-maps

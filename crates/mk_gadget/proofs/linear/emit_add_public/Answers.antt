@@ -15,7 +15,7 @@ pub loop-share-init : goal.loop-share-init
 loop-share-init g c =
     Emitting-more c.args.builder.now c.reserve.new.self c.push.new.self (public_addition-row c.args.x.now.regs c.args.p) g.row.N 0 _ c.push.result
     (Emitting-start c.args.builder.now c.reserve.new.self (public_addition-row c.args.x.now.regs c.args.p) g.row.N _ c.in_ok-reserve.ensures.same c.in_ok-reserve.ensures.ok (length-replicate g.row.N 0))
-    (omega (arith, c.requires.least)) c.push.ensures.pushed c.push.ensures.place
+    (omega (arith, c.requires.least)) c.push.ensures.pushed c.push.ensures.position
 
 pub push-requires-in-loop-share-clause-room : goal.push-requires-in-loop-share-clause-room
 push-requires-in-loop-share-clause-room g c = omega (arith, c.loop-share.invariant.room)
@@ -34,7 +34,7 @@ loop-share-preserved g c =
     Emitting-more c.args.builder.now c.loop-share.builder c.push-in-loop-share.new.self (public_addition-row c.args.x.now.regs c.args.p) g.row.N c.loop-share.share c.loop-share.regs c.push-in-loop-share.result c.loop-share.invariant
     (omega arith)
     (c.push-in-loop-share.ensures.pushed ∙ ap (λ (i : Instr). record c.loop-share.builder { instrs = c.loop-share.builder.instrs ++ i ∷ []; spare = c.loop-share.builder.spare - 1 }) one)
-    c.push-in-loop-share.ensures.place
+    c.push-in-loop-share.ensures.position
 
 pub returns-clause-emitted : goal.returns-clause-emitted
 returns-clause-emitted g c =

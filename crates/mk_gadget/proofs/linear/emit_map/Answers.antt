@@ -28,7 +28,7 @@ push-requires-clause-fits g c =
 pub loop-share-preserved : goal.loop-share-preserved
 loop-share-preserved g c =
     Emitting-more c.args.builder.now c.loop-share.builder c.push.new.self (mapping-row c.args.map c.args.x.now.regs) g.row.N c.loop-share.share c.loop-share.regs c.push.result c.loop-share.invariant
-    (omega arith) c.push.ensures.pushed c.push.ensures.place
+    (omega arith) c.push.ensures.pushed c.push.ensures.position
 
 pub returns-clause-emitted : goal.returns-clause-emitted
 returns-clause-emitted g c =

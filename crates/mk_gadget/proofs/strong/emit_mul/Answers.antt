@@ -4,7 +4,7 @@ use Rattle.mk_code.specs.declared.instr.Instr.TheVariants as instr
 use Rattle.mk_code.specs.Draft.{Draft, draft_len}
 use Rattle.mk_gadget.specs.Product.{product_gadget}
 use Rattle.mk_code.proofs.Steps.{AllBelow-at}
-use Rattle.mk_gadget.proofs.ProductRun.{cell_place-below}
+use Rattle.mk_gadget.proofs.ProductRun.{cell_position-below}
 use Rattle.mk_gadget.proofs.ProductRows.{length-product}
 use Rattle.mk_gadget.proofs.StrongValues.{product-gives}
 use Rattle.mk_gadget.proofs.Placing.{few-shares, HasPushed, pushed-numbers}
@@ -143,13 +143,13 @@ loop-high-preserved g c =
     c.push-sum.result c.push-product.result c.push-sum-in-loop-high.result c.push-other.result c.loop-high.invariant
     (record {
       one_is = c.push-sum.ensures.pushed;
-      random_is = c.push-sum.ensures.place;
+      random_is = c.push-sum.ensures.position;
       two_is = c.push-product.ensures.pushed;
-      first_is = c.push-product.ensures.place;
+      first_is = c.push-product.ensures.position;
       three_is = c.push-sum-in-loop-high.ensures.pushed;
-      half_is = c.push-sum-in-loop-high.ensures.place;
+      half_is = c.push-sum-in-loop-high.ensures.position;
       four_is = c.push-other.ensures.pushed;
-      second_is = c.push-other.ensures.place;
+      second_is = c.push-other.ensures.position;
       five_is = c.push-sum-in-loop-high-2.ensures.pushed;
     })
     (omega (arith, c.loop-high.auto.high)) (omega (arith, c.loop-high-test.true)) c.count_law.ensures c.count_law-2.ensures
@@ -185,21 +185,21 @@ push-sum-requires-in-loop-row-clause-fits g c =
 pub loop-column-init : goal.loop-column-init
 loop-column-init g c =
     Columning-start c.args.builder.now c.loop-row.builder c.push-sum-in-loop-row.new.self c.args.x.now.regs c.args.y.now.regs c.loop-row.regs g.row.N c.loop-row.row c.push-sum-in-loop-row.result
-    c.loop-row.invariant (omega (arith, c.loop-row-test.true)) c.count_law.ensures c.count_law-2.ensures c.push-sum-in-loop-row.ensures.pushed c.push-sum-in-loop-row.ensures.place
+    c.loop-row.invariant (omega (arith, c.loop-row-test.true)) c.count_law.ensures c.count_law-2.ensures c.push-sum-in-loop-row.ensures.pushed c.push-sum-in-loop-row.ensures.position
 
-pub cell_place-requires-clause-most : goal.cell_place-requires-clause-most
-cell_place-requires-clause-most g c =
+pub cell_position-requires-clause-most : goal.cell_position-requires-clause-most
+cell_position-requires-clause-most g c =
     few-shares g.row.N (length (product_gadget g.row.N).instrs) (omega (arith, length-product g.row.N)) (omega (arith, c.requires.few))
 
-pub cell_place-requires-clause-fits : goal.cell_place-requires-clause-fits
-cell_place-requires-clause-fits g c =
+pub cell_position-requires-clause-fits : goal.cell_position-requires-clause-fits
+cell_position-requires-clause-fits g c =
     let base : draft_len c.reserve.new.self ≡ draft_len c.args.builder.now = ap draft_len c.in_ok-reserve.ensures.same in
     omega (
       arith,
       base,
       c.len-first.ensures,
       c.push-sum-in-loop-row.type_inv,
-      c.push-sum-in-loop-row.ensures.place,
+      c.push-sum-in-loop-row.ensures.position,
       Rowing-len c.args.builder.now c.loop-row.builder c.args.x.now.regs c.args.y.now.regs c.loop-row.regs g.row.N c.loop-row.row c.loop-row.invariant (omega (arith, c.loop-row-test.true)),
     )
 
@@ -222,11 +222,11 @@ push-sum-requires-then-column-row-clause-fits g c =
       omega (arith, sum-at c.args.builder.now c.args.x.now.regs c.args.y.now.regs g.row.N c.loop-row.row c.loop-column.column c.count_law.ensures c.count_law-2.ensures, c.loop-column.invariant.last, len),
       omega (
         arith,
-        c.cell_place.ensures,
+        c.cell_position.ensures,
         base,
         c.len-first.ensures,
         len,
-        cell_place-below g.row.N c.loop-row.row c.loop-column.column (omega (arith, c.loop-row-test.true)) (omega (arith, c.loop-column-test.true)) (λ e. c.if-column-row.true (sym e)),
+        cell_position-below g.row.N c.loop-row.row c.loop-column.column (omega (arith, c.loop-row-test.true)) (omega (arith, c.loop-column-test.true)) (λ e. c.if-column-row.true (sym e)),
       ),
     )
 
@@ -239,11 +239,11 @@ loop-column-preserved g c =
           subst (λ (d : Draft). Columning c.args.builder.now d c.args.x.now.regs c.args.y.now.regs g.row.N c.loop-row.row (c.loop-column.column + 1) c.if-column-row.sum) (sym w.builder-is)
           (subst (λ (s : ℕ). Columning c.args.builder.now w.push-sum-then-column-row.new.self c.args.x.now.regs c.args.y.now.regs g.row.N c.loop-row.row (c.loop-column.column + 1) s) (sym w.sum-is)
           (Columning-more c.args.builder.now c.loop-column.builder w.push-sum-then-column-row.new.self c.args.x.now.regs c.args.y.now.regs g.row.N c.loop-row.row c.loop-column.column c.loop-column.sum
-          w.cell_place.result w.push-sum-then-column-row.result c.loop-column.invariant (omega (arith, c.loop-row-test.true)) (omega (arith, c.loop-column-test.true)) other
+          w.cell_position.result w.push-sum-then-column-row.result c.loop-column.invariant (omega (arith, c.loop-row-test.true)) (omega (arith, c.loop-column-test.true)) other
           c.count_law.ensures c.count_law-2.ensures
-          (cell-at c.args.builder.now c.args.x.now.regs c.args.y.now.regs g.row.N c.loop-row.row c.loop-column.column w.cell_place.result c.count_law.ensures c.count_law-2.ensures other
-          (omega (arith, w.cell_place.ensures, base, c.len-first.ensures)))
-          w.push-sum-then-column-row.ensures.pushed w.push-sum-then-column-row.ensures.place))
+          (cell-at c.args.builder.now c.args.x.now.regs c.args.y.now.regs g.row.N c.loop-row.row c.loop-column.column w.cell_position.result c.count_law.ensures c.count_law-2.ensures other
+          (omega (arith, w.cell_position.ensures, base, c.len-first.ensures)))
+          w.push-sum-then-column-row.ensures.pushed w.push-sum-then-column-row.ensures.position))
       | else-column-row w ↦
           subst (λ (d : Draft). Columning c.args.builder.now d c.args.x.now.regs c.args.y.now.regs g.row.N c.loop-row.row (c.loop-column.column + 1) c.if-column-row.sum) (sym w.builder-is)
           (subst (λ (s : ℕ). Columning c.args.builder.now c.loop-column.builder c.args.x.now.regs c.args.y.now.regs g.row.N c.loop-row.row (c.loop-column.column + 1) s) (sym w.sum-is)

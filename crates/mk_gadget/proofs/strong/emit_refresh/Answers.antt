@@ -55,10 +55,10 @@ push-requires-clause-few g c =
 
 pub push-requires-clause-fits : goal.push-requires-clause-fits
 push-requires-clause-fits g c =
-    let places : AreBefore c.loop-j.builder c.loop-j.regs c.loop-i.i c.loop-j.j =
+    let positions : AreBefore c.loop-j.builder c.loop-j.regs c.loop-i.i c.loop-j.j =
     Refreshing-before c.args.builder.now c.loop-j.builder c.args.x.now.regs c.loop-j.regs g.row.N c.loop-i.i c.loop-j.j c.loop-j.invariant (omega (arith, c.loop-j.auto.j)) (omega (arith, c.loop-j-test.true)) c.count_law.ensures c.requires.shared in
     let one : HasPushed c.loop-j.builder c.push-random.new.self = pushed-numbers c.loop-j.builder c.push-random.new.self instr.Rnd c.push-random.ensures.pushed in
-    (omega (arith, places.first, one.len), omega (arith, c.push-random.ensures.place, one.len))
+    (omega (arith, positions.first, one.len), omega (arith, c.push-random.ensures.position, one.len))
 
 pub push-requires-in-loop-j-clause-room : goal.push-requires-in-loop-j-clause-room
 push-requires-in-loop-j-clause-room g c =
@@ -80,14 +80,14 @@ push-requires-in-loop-j-clause-few g c =
 
 pub push-requires-in-loop-j-clause-fits : goal.push-requires-in-loop-j-clause-fits
 push-requires-in-loop-j-clause-fits g c =
-    let places : AreBefore c.loop-j.builder c.loop-j.regs c.loop-i.i c.loop-j.j =
+    let positions : AreBefore c.loop-j.builder c.loop-j.regs c.loop-i.i c.loop-j.j =
     Refreshing-before c.args.builder.now c.loop-j.builder c.args.x.now.regs c.loop-j.regs g.row.N c.loop-i.i c.loop-j.j c.loop-j.invariant (omega (arith, c.loop-j.auto.j)) (omega (arith, c.loop-j-test.true)) c.count_law.ensures c.requires.shared in
     let one : HasPushed c.loop-j.builder c.push-random.new.self = pushed-numbers c.loop-j.builder c.push-random.new.self instr.Rnd c.push-random.ensures.pushed in
     let two : HasPushed c.push-random.new.self c.push.new.self =
     pushed-numbers c.push-random.new.self c.push.new.self (instr.Add (slice_index c.loop-j.regs c.loop-i.i) c.push-random.result) c.push.ensures.pushed in
     let kept : slice_index (slice_set c.loop-j.regs c.loop-i.i c.push.result) c.loop-j.j ≡ slice_index c.loop-j.regs c.loop-j.j =
     get_or-set_other c.loop-j.regs c.loop-i.i c.loop-j.j c.push.result 0 (λ e. omega (arith, e, c.loop-j.auto.j)) in
-    (omega (arith, kept, places.second, one.len, two.len), omega (arith, c.push-random.ensures.place, one.len, two.len))
+    (omega (arith, kept, positions.second, one.len, two.len), omega (arith, c.push-random.ensures.position, one.len, two.len))
 
 pub loop-j-preserved : goal.loop-j-preserved
 loop-j-preserved g c =
@@ -95,11 +95,11 @@ loop-j-preserved g c =
     g.row.N c.loop-i.i c.loop-j.j c.push-random.result c.push.result c.push-in-loop-j.result c.loop-j.invariant
     (record {
       one_is = c.push-random.ensures.pushed;
-      random_is = c.push-random.ensures.place;
+      random_is = c.push-random.ensures.position;
       two_is = c.push.ensures.pushed;
-      first_is = c.push.ensures.place;
+      first_is = c.push.ensures.position;
       three_is = c.push-in-loop-j.ensures.pushed;
-      second_is = c.push-in-loop-j.ensures.place;
+      second_is = c.push-in-loop-j.ensures.position;
     })
     (omega (arith, c.loop-j.auto.j)) (omega (arith, c.loop-j-test.true)) c.count_law.ensures
 

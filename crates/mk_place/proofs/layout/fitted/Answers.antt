@@ -1,7 +1,7 @@
 use Rattle.std.proofs.Common.{rules, ◌≡◌, [], ◌∷◌, length, take, ◌∙◌, ap}
 use Rattle.mk_ssa.specs.declared.Op.{Op}
 use Rattle.mk_ssa.specs.Kinds.{shared_operands, public_operands}
-use Rattle.mk_ssa.specs.Operators.{operator, with_operands as over}
+use Rattle.mk_ssa.specs.Operators.{operator, with_operands as over, with_operands_by}
 use Rattle.mk_place.specs.Laying.{named}
 use Rattle.mk_place.proofs.Fitted.{fitted-is}
 use Rattle.mk_place.proofs.layout.fitted.Goals as goal

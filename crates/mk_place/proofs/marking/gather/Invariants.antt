@@ -1,7 +1,8 @@
 -- The row stands for the need by the uses so far, and of these are marked those that are to be.
 use Rattle.std.proofs.Common.{◌≡◌, ◌⊎◌, ◌↔◌, ℕ, length, take}
+use Rattle.mk_rules.specs.Uses.{last_first}
 use Rattle.mk_place.specs.Uses.{uses}
-use Rattle.mk_place.specs.Marking.{IsMarked, all_marks, last_first}
+use Rattle.mk_place.specs.Marking.{IsMarked, all_marks}
 use Rattle.mk_place.proofs.Gathering.{Stands}
 use Rattle.mk_place.proofs.Marked.{IsAmong}
 use Rattle.mk_place.proofs.marking.gather.Given as goal

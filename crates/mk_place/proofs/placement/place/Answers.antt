@@ -6,7 +6,7 @@ use Rattle.mk_ssa.specs.Values.{Values}
 use Rattle.mk_rules.specs.Claimed.{Claimed}
 use Rattle.mk_rules.specs.Wired.{IsSharedThere, Wired}
 use Rattle.mk_rules.specs.Reaches.{Undoubled, links}
-use Rattle.mk_place.specs.Uses.{plain}
+use Rattle.mk_place.specs.Uses.{shape_of_values}
 use Rattle.mk_place.specs.Layout.{laid_out}
 use Rattle.mk_place.specs.Placed.{Placed}
 use Rattle.mk_place.specs.Marking.{all_marks}
@@ -24,8 +24,8 @@ pub returns-clause-wired : goal.returns-clause-wired
 returns-clause-wired c =
     let s : Values = c.args.s.now in
     let cert : Claimed = laid_out (all_marks s) s in
-    IfOk-weaker c.laid_out.result (λ x. x ≡ cert) (λ x. Wired (plain s) x.blocks)
-    (λ x same. subst (λ (y : Claimed). Wired (plain s) y.blocks) (sym same)
+    IfOk-weaker c.laid_out.result (λ x. x ≡ cert) (λ x. Wired (shape_of_values s) x.blocks)
+    (λ x same. subst (λ (y : Claimed). Wired (shape_of_values s) y.blocks) (sym same)
     (laid-wired (all_marks s) s c.laid_out.ensures.fits (marked-there s)))
     c.laid_out.ensures.laid
 
@@ -33,15 +33,15 @@ pub returns-clause-claims : goal.returns-clause-claims
 returns-clause-claims c =
     let s : Values = c.args.s.now in
     let cert : Claimed = laid_out (all_marks s) s in
-    IfOk-weaker c.laid_out.result (λ x. x ≡ cert) (λ x. All (IsSharedThere (plain s) x.blocks) x.claims)
-    (λ x same. subst (λ (y : Claimed). All (IsSharedThere (plain s) y.blocks) y.claims) (sym same)
+    IfOk-weaker c.laid_out.result (λ x. x ≡ cert) (λ x. All (IsSharedThere (shape_of_values s) x.blocks) x.claims)
+    (λ x same. subst (λ (y : Claimed). All (IsSharedThere (shape_of_values s) y.blocks) y.claims) (sym same)
     (laid-claims (all_marks s) s c.laid_out.ensures.fits))
     c.laid_out.ensures.laid
 
 pub returns-clause-undoubled : goal.returns-clause-undoubled
 returns-clause-undoubled c =
     let s : Values = c.args.s.now in
-    IfOk-weaker c.laid_out.result (λ x. x ≡ laid_out (all_marks s) s) (λ x. Undoubled (s.secrets + s.publics) (links (plain s) x.blocks))
+    IfOk-weaker c.laid_out.result (λ x. x ≡ laid_out (all_marks s) s) (λ x. Undoubled (s.secrets + s.publics) (links (shape_of_values s) x.blocks))
     (is-undoubled s c.laid_out.ensures.fits) c.laid_out.ensures.laid
 
 pub returns-clause-few : goal.returns-clause-few

@@ -1,143 +1,132 @@
--- Each block passes its places on to its operands, and is told of; then the inputs are told of.
-use Rattle.std.proofs.Common.{◌≡◌, ◌+◌, ◌-◌, ◌<◌, ◌++◌, ℕ, List, Option, length, get_or, slice_get, Some, sym, ◌∙◌, ap, subst, arith}
-use Rattle.std.specs.Option.{option_to_list}
-use Rattle.std.proofs.lemmas.Option.{slice_get-get_or}
-use Rattle.mk_code.specs.Listing.{Listing}
+-- Each value is told of by the row that its uses make.
+use Rattle.std.proofs.Common.{◌≡◌, ◌+◌, ◌-◌, ◌<◌, ◌++◌, ◌∷◌, ℕ, suc, true, List, [], length, slice_index_or, sym, ◌∙◌, ap, subst, arith}
+use Rattle.std.proofs.lemmas.List.{get_or_default, length-append}
 use Rattle.mk_ssa.specs.declared.Op.{Op}
-use Rattle.mk_ssa.specs.declared.Op.TheVariants.{Const}
+use Rattle.mk_rules.specs.declared.uses.OperandPlace.{OperandPlace}
 use Rattle.mk_rules.specs.Shape.{Shape, shape_of}
-use Rattle.mk_report.specs.declared.need.Place.{Place}
-use Rattle.mk_report.specs.Reached.{AreAscending}
-use Rattle.mk_report.specs.Passing.{IsPassedOn}
-use Rattle.mk_report.proofs.Passed.{AreReached, AreFrom, reached-none, reached-popped, passed-there, reached-step, reached-all}
-use Rattle.mk_report.proofs.Telling.{AreToldFrom, told-none, told-more, tells-of}
+use Rattle.mk_report.specs.declared.need.Told.{Told}
+use Rattle.mk_report.specs.Rows.{HavePlaces, IsRowOf, places_in}
+use Rattle.std.specs.List.{Contains}
+use Rattle.mk_rules.specs.Wired.{Wired}
+use Rattle.mk_report.specs.Passing.{HasEarlier, HasRows, IsGathered, IsIndex, IsReady, IsTold, block_at, passes, row_at}
+use Rattle.mk_report.proofs.Listed.{have-places, places-are}
+use Rattle.mk_report.proofs.Telling.{AreToldFrom, tells-of, told-more}
+use Rattle.mk_report.proofs.Turning.{row-is, rows-next, use-ready}
 use Rattle.mk_report.proofs.reached.reached.Goals as goal
 
--- the table without its last list, and that list
-left : (shape : Shape) (blocks : List Op) (k now n m : ℕ) (table rest : List (List Place)) (o : Option (List Place)) (own : List Place) → now ≡ k
-    → m ≡ n + 1 → AreReached shape blocks now m table → table ≡ rest ++ option_to_list o → o ≡ Some own
-    → AreReached shape blocks k n rest × (AreAscending own × AreFrom shape blocks k n own)
-left shape blocks k now n m table rest o own at more are is there =
-    reached-popped shape blocks k now n m table rest own at more are (is ∙ ap (λ (x : Option (List Place)). rest ++ option_to_list x) there)
+module _ (shape : Shape) (blocks : List Op) (wired : Wired shape blocks) (noted : List (List OperandPlace)) (numbers products : List ℕ) (words : ℕ)
+    (index : IsIndex shape blocks noted numbers products words) (total done : ℕ) (total_is : total ≡ shape.secrets + shape.publics + length blocks)
+    (within : done < total) (us read : List OperandPlace) (same : us ≡ read) (known : read ≡ slice_index_or noted (total - 1 - done) read)
+    (rows seen : List (List ℕ)) (seen_is : seen ≡ rows) (count : length rows ≡ done) (are : HasRows shape blocks rows words (total - done)) where
+  -- the value of this turn
+  abbrev number : ℕ
+  number = total - 1 - done
 
-pub loop-k-init : goal.loop-k-init
-loop-k-init c =
-    let count : ℕ = c.args.code.now.secrets + c.args.code.now.publics + length c.args.blocks.now in
+  -- it is there
+  number-below : number < shape.secrets + shape.publics + length blocks
+  number-below = omega (arith, total_is, within)
+
+  -- the uses that the code reads are its uses
+  uses-are : us ≡ slice_index_or noted number []
+  uses-are = same ∙ known ∙ get_or_default noted number read [] (omega (arith, number-below, index.noted_all.count))
+
+  -- so many rows are there
+  rows-count : length seen + suc number ≡ shape.secrets + shape.publics + length blocks
+  rows-count = omega (arith, ap (λ (rs : List (List ℕ)). length rs) seen_is, count, total_is, within)
+
+  -- those that are to be passed on
+  rows-are : HasRows shape blocks seen words (suc number)
+  rows-are =
+      let e : total - done ≡ suc number = omega (arith, within) in
+      subst (HasRows shape blocks seen words) e (subst (λ (rs : List (List ℕ)). HasRows shape blocks rs words (total - done)) (sym seen_is) are)
+
+  -- each use is ready
+  turn-ready : (u : OperandPlace) → Contains us u → IsReady blocks seen words u
+  turn-ready = use-ready shape blocks wired noted numbers products words index number number-below us uses-are seen rows-count rows-are
+
+  module _ (row : List ℕ) (gathered : IsGathered blocks seen us row) where
+    -- the row stands for what the value reaches
+    turn-row : IsRowOf shape blocks number row
+    turn-row = row-is shape blocks wired noted numbers products words index number number-below us uses-are seen rows-count rows-are row gathered
+
+    -- the rows of the next turn
+    turn-rows : (after : List (List ℕ)) (last : List ℕ) → length row ≡ words → length after ≡ length rows
+        → ((b : ℕ) → HasEarlier shape (block_at blocks b) number → row_at blocks after b ≡ row_at blocks rows b)
+        → ((b : ℕ) → number ≡ shape.secrets + shape.publics + b → passes (block_at blocks b) ≡ true → last ≡ row)
+        → HasRows shape blocks (after ++ last ∷ []) words (total - (done + 1))
+    turn-rows after last long as_many still kept =
+        let e : number ≡ total - (done + 1) = omega arith in
+        subst (HasRows shape blocks (after ++ last ∷ []) words) e
+        (rows-next shape blocks wired noted numbers products words index number number-below us uses-are seen rows-count rows-are row gathered after last long
+        (as_many ∙ ap (λ (rs : List (List ℕ)). length rs) (sym seen_is))
+        (λ b early. still b early ∙ ap (λ (rs : List (List ℕ)). row_at blocks rs b) (sym seen_is)) kept)
+
+    -- what is told of it
+    turn-told : (told : List Told) (x : Told) (listed shown : List ℕ) → listed ≡ products → shown ≡ row → AreToldFrom shape blocks (total - done) told
+        → IsTold (places_in listed shown) x → AreToldFrom shape blocks (total - (done + 1)) (told ++ x ∷ [])
+    turn-told told x listed shown listed_is shown_is so_far is =
+        let e : number ≡ total - (done + 1) = omega arith in
+        subst (λ (n : ℕ). AreToldFrom shape blocks n (told ++ x ∷ [])) e
+        (told-more shape blocks number (total - done) told x (places_in products row) (omega (arith, within)) so_far
+        (places-are shape blocks products index.all number row turn-row)
+        (subst (λ (ps : List ℕ). IsTold (places_in ps row) x) listed_is (subst (λ (r : List ℕ). IsTold (places_in listed r) x) shown_is is)))
+
+    -- its bits are those of products
+    turn-places : (listed shown : List ℕ) → listed ≡ products → shown ≡ row → HavePlaces listed shown
+    turn-places listed shown listed_is shown_is =
+        subst (λ (ps : List ℕ). HavePlaces ps shown) (sym listed_is)
+        (subst (HavePlaces products) (sym shown_is) (have-places shape blocks products index.all number row turn-row))
+
+pub gather-requires-clause-ready : goal.gather-requires-clause-ready
+gather-requires-clause-ready c =
+    turn-ready (shape_of c.args.code.now) c.args.blocks.now c.requires.wired c.in_ok-index.index.uses.items c.in_ok-index.index.numbers.items
+    c.in_ok-index.index.products.items c.in_ok-index.index.words c.in_ok-index.ensures (c.secrets.result + c.publics.result + length c.args.blocks.now) c.loop-done.done c.loop-done.invariant.total
+    c.loop-done-test.true c.as_slice-uses.result.now c.index.result.now c.as_slice-uses.ensures.items c.index.ensures
+    c.loop-done.rows.items c.as_slice.result.now c.as_slice.ensures.value c.loop-done.invariant.count c.loop-done.invariant.rows
+
+pub tell-requires-clause-products : goal.tell-requires-clause-products
+tell-requires-clause-products c =
+    turn-places (shape_of c.args.code.now) c.args.blocks.now c.requires.wired c.in_ok-index.index.uses.items c.in_ok-index.index.numbers.items
+    c.in_ok-index.index.products.items c.in_ok-index.index.words c.in_ok-index.ensures (c.secrets.result + c.publics.result + length c.args.blocks.now) c.loop-done.done c.loop-done.invariant.total
+    c.loop-done-test.true c.as_slice-uses.result.now c.index.result.now c.as_slice-uses.ensures.items c.index.ensures
+    c.loop-done.rows.items c.as_slice.result.now c.as_slice.ensures.value c.loop-done.invariant.count c.loop-done.invariant.rows c.in_ok-row.row c.in_ok-row.ensures.bits
+    c.as_slice-in-loop-done.result.now c.as_slice-in-loop-done-2.result.now c.as_slice-in-loop-done.ensures.value c.as_slice-in-loop-done-2.ensures.items
+
+pub let_go-requires : goal.let_go-requires
+let_go-requires c =
+    λ u held.
+    let ready = turn-ready (shape_of c.args.code.now) c.args.blocks.now c.requires.wired c.in_ok-index.index.uses.items c.in_ok-index.index.numbers.items
+    c.in_ok-index.index.products.items c.in_ok-index.index.words c.in_ok-index.ensures (c.secrets.result + c.publics.result + length c.args.blocks.now) c.loop-done.done c.loop-done.invariant.total
+    c.loop-done-test.true c.as_slice-uses.result.now c.index.result.now c.as_slice-uses.ensures.items c.index.ensures
+    c.loop-done.rows.items c.as_slice.result.now c.as_slice.ensures.value c.loop-done.invariant.count c.loop-done.invariant.rows u held in
+    (ready.behind.0, omega (arith, ready.behind.1, ap (λ (rs : List (List ℕ)). length rs) c.as_slice.ensures.value))
+
+pub loop-done-preserved : goal.loop-done-preserved
+loop-done-preserved c =
     record {
-      within = omega arith;
-      reached =
-          reached-none (shape_of c.args.code.now) c.args.blocks.now (length c.args.blocks.now) count c.in_ok-needs.needs.items (omega arith)
-          (omega (arith, c.in_ok-needs.ensures.count, c.secrets.ensures, c.publics.ensures)) c.in_ok-needs.ensures.none;
-      told =
-          subst (AreToldFrom (shape_of c.args.code.now) c.args.blocks.now count) (sym c.new-told.ensures.items)
-          (told-none (shape_of c.args.code.now) c.args.blocks.now count (omega arith));
+      first = c.loop-done.invariant.first;
+      total = c.loop-done.invariant.total;
+      count = ap (λ (rs : List (List ℕ)). length rs) c.in_ok-push-2.ensures.items
+          ∙ omega (arith, length-append c.let_go.new.rows.items (c.kept.result ∷ []), c.let_go.ensures.count, c.loop-done.invariant.count);
+      rows = subst (λ (rs : List (List ℕ)). HasRows (shape_of c.args.code.now) c.args.blocks.now rs c.in_ok-index.index.words (c.secrets.result + c.publics.result + length c.args.blocks.now - (c.loop-done.done + 1)))
+          (sym c.in_ok-push-2.ensures.items)
+          (turn-rows (shape_of c.args.code.now) c.args.blocks.now c.requires.wired c.in_ok-index.index.uses.items c.in_ok-index.index.numbers.items
+          c.in_ok-index.index.products.items c.in_ok-index.index.words c.in_ok-index.ensures (c.secrets.result + c.publics.result + length c.args.blocks.now) c.loop-done.done c.loop-done.invariant.total
+          c.loop-done-test.true c.as_slice-uses.result.now c.index.result.now c.as_slice-uses.ensures.items c.index.ensures
+          c.loop-done.rows.items c.as_slice.result.now c.as_slice.ensures.value c.loop-done.invariant.count c.loop-done.invariant.rows c.in_ok-row.row c.in_ok-row.ensures.bits c.let_go.new.rows.items c.kept.result c.in_ok-row.ensures.count
+          c.let_go.ensures.count c.let_go.ensures.kept
+          (λ b at passing. c.kept.ensures b (omega (arith, at, c.loop-done.invariant.first)) passing));
+      told = subst (AreToldFrom (shape_of c.args.code.now) c.args.blocks.now (c.secrets.result + c.publics.result + length c.args.blocks.now - (c.loop-done.done + 1))) (sym c.in_ok-push.ensures.items)
+          (turn-told (shape_of c.args.code.now) c.args.blocks.now c.requires.wired c.in_ok-index.index.uses.items c.in_ok-index.index.numbers.items
+          c.in_ok-index.index.products.items c.in_ok-index.index.words c.in_ok-index.ensures (c.secrets.result + c.publics.result + length c.args.blocks.now) c.loop-done.done c.loop-done.invariant.total
+          c.loop-done-test.true c.as_slice-uses.result.now c.index.result.now c.as_slice-uses.ensures.items c.index.ensures
+          c.loop-done.rows.items c.as_slice.result.now c.as_slice.ensures.value c.loop-done.invariant.count c.loop-done.invariant.rows c.in_ok-row.row c.in_ok-row.ensures.bits c.loop-done.told.items c.in_ok-tell.field-0
+          c.as_slice-in-loop-done.result.now c.as_slice-in-loop-done-2.result.now c.as_slice-in-loop-done.ensures.value c.as_slice-in-loop-done-2.ensures.items
+          c.loop-done.invariant.told c.in_ok-tell.ensures);
     }
-
-pub pass_on-requires-clause-first : goal.pass_on-requires-clause-first
-pass_on-requires-clause-first c =
-    let k : ℕ = c.loop-k.k - 1 in
-    let code : Listing = c.args.code.now in
-    let inputs : ℕ = code.secrets + code.publics in
-    let rest = left (shape_of code) c.args.blocks.now (k + 1) c.loop-k.k (inputs + k) (inputs + c.loop-k.k) c.loop-k.needs.items c.pop.new.self.items c.pop.result
-    c.unwrap-own.result (omega (arith, c.loop-k-test.true)) (omega (arith, c.loop-k-test.true)) c.loop-k.invariant.reached c.pop.ensures.items c.unwrap-own.ensures in
-    passed-there (shape_of code) c.args.blocks.now c.requires.wired k (get_or c.args.blocks.now k (Const 0))
-    (slice_get-get_or c.args.blocks.now k (Const 0) (omega (arith, c.loop-k.invariant.within, c.loop-k-test.true)))
-    (length c.pop.new.self.items) 0 (sym rest.0.long)
-
-pub pass_on-requires-clause-second : goal.pass_on-requires-clause-second
-pass_on-requires-clause-second c =
-    let k : ℕ = c.loop-k.k - 1 in
-    let code : Listing = c.args.code.now in
-    let inputs : ℕ = code.secrets + code.publics in
-    let rest = left (shape_of code) c.args.blocks.now (k + 1) c.loop-k.k (inputs + k) (inputs + c.loop-k.k) c.loop-k.needs.items c.pop.new.self.items c.pop.result
-    c.unwrap-own.result (omega (arith, c.loop-k-test.true)) (omega (arith, c.loop-k-test.true)) c.loop-k.invariant.reached c.pop.ensures.items c.unwrap-own.ensures in
-    passed-there (shape_of code) c.args.blocks.now c.requires.wired k (get_or c.args.blocks.now k (Const 0))
-    (slice_get-get_or c.args.blocks.now k (Const 0) (omega (arith, c.loop-k.invariant.within, c.loop-k-test.true)))
-    (length c.pop.new.self.items) 1 (sym rest.0.long)
-
-pub pass_on-requires-clause-needs : goal.pass_on-requires-clause-needs
-pass_on-requires-clause-needs c =
-    let k : ℕ = c.loop-k.k - 1 in
-    let code : Listing = c.args.code.now in
-    let inputs : ℕ = code.secrets + code.publics in
-    let rest = left (shape_of code) c.args.blocks.now (k + 1) c.loop-k.k (inputs + k) (inputs + c.loop-k.k) c.loop-k.needs.items c.pop.new.self.items c.pop.result
-    c.unwrap-own.result (omega (arith, c.loop-k-test.true)) (omega (arith, c.loop-k-test.true)) c.loop-k.invariant.reached c.pop.ensures.items c.unwrap-own.ensures in
-    rest.0.ascending
-
-pub pass_on-requires-clause-own : goal.pass_on-requires-clause-own
-pass_on-requires-clause-own c =
-    let k : ℕ = c.loop-k.k - 1 in
-    let code : Listing = c.args.code.now in
-    let inputs : ℕ = code.secrets + code.publics in
-    let rest = left (shape_of code) c.args.blocks.now (k + 1) c.loop-k.k (inputs + k) (inputs + c.loop-k.k) c.loop-k.needs.items c.pop.new.self.items c.pop.result
-    c.unwrap-own.result (omega (arith, c.loop-k-test.true)) (omega (arith, c.loop-k-test.true)) c.loop-k.invariant.reached c.pop.ensures.items c.unwrap-own.ensures in
-    subst AreAscending (sym c.as_slice.ensures.items) rest.1.0
-
-pub loop-k-preserved : goal.loop-k-preserved
-loop-k-preserved c =
-    let k : ℕ = c.loop-k.k - 1 in
-    let code : Listing = c.args.code.now in
-    let blocks : List Op = c.args.blocks.now in
-    let inputs : ℕ = code.secrets + code.publics in
-    let op : Op = get_or blocks k (Const 0) in
-    let there : slice_get blocks k ≡ Some op = slice_get-get_or blocks k (Const 0) (omega (arith, c.loop-k.invariant.within, c.loop-k-test.true)) in
-    let own : List Place = c.unwrap-own.result in
-    let rest = left (shape_of code) blocks (k + 1) c.loop-k.k (inputs + k) (inputs + c.loop-k.k) c.loop-k.needs.items c.pop.new.self.items c.pop.result own
-    (omega (arith, c.loop-k-test.true)) (omega (arith, c.loop-k-test.true)) c.loop-k.invariant.reached c.pop.ensures.items c.unwrap-own.ensures in
-    record {
-      within = omega (arith, c.loop-k.invariant.within);
-      reached =
-          reached-step (shape_of code) blocks c.requires.wired k op there own rest.1.1 c.pop.new.self.items c.pass_on.new.needs.items rest.0
-          (subst (λ (xs : List Place). IsPassedOn (shape_of code) k op xs c.pop.new.self.items c.pass_on.new.needs.items) c.as_slice.ensures.items c.in_ok-pass_on.ensures);
-      told =
-          subst (AreToldFrom (shape_of code) blocks (inputs + k)) (sym c.in_ok-push.ensures.items)
-          (told-more (shape_of code) blocks (inputs + k) (inputs + c.loop-k.k) c.loop-k.told.items c.in_ok-tell.field-0 own (omega (arith, c.loop-k-test.true)) c.loop-k.invariant.told
-          (reached-all (shape_of code) blocks c.requires.wired (k + 1) (inputs + k) own (omega (arith, c.loop-k.invariant.within, c.loop-k-test.true)) (omega arith) rest.1.0 rest.1.1)
-          c.in_ok-tell.ensures);
-    }
-
-pub loop-init : goal.loop-init
-loop-init c =
-    let start : c.loop-k.k ≡ 0 = omega (arith, c.loop-k-test.false) in
-    let code : Listing = c.args.code.now in
-    let inputs : ℕ = code.secrets + code.publics in
-    let e : inputs + c.loop-k.k ≡ inputs - 0 = omega (arith, start) in
-    record {
-      within = omega arith;
-      reached =
-          subst (λ (n : ℕ). AreReached (shape_of code) c.args.blocks.now 0 n c.loop-k.needs.items) e
-          (subst (λ (k : ℕ). AreReached (shape_of code) c.args.blocks.now k (inputs + c.loop-k.k) c.loop-k.needs.items) start c.loop-k.invariant.reached);
-      told = subst (λ (n : ℕ). AreToldFrom (shape_of code) c.args.blocks.now n c.loop-k.told.items) e c.loop-k.invariant.told;
-    }
-
-pub loop-preserved : goal.loop-preserved
-loop-preserved c =
-    let code : Listing = c.args.code.now in
-    let blocks : List Op = c.args.blocks.now in
-    let inputs : ℕ = code.secrets + code.publics in
-    let n : ℕ = inputs - (c.loop.counter + 1) in
-    let below : c.loop.counter < inputs = omega (arith, c.secrets.ensures, c.publics.ensures, c.loop-test.true) in
-    let more : inputs - c.loop.counter ≡ n + 1 = omega (arith, below) in
-    let own : List Place = c.unwrap-own-in-loop.result in
-    let rest = left (shape_of code) blocks 0 0 n (inputs - c.loop.counter) c.loop.needs.items c.pop-in-loop.new.self.items c.pop-in-loop.result own (omega arith) more c.loop.invariant.reached
-    c.pop-in-loop.ensures.items c.unwrap-own-in-loop.ensures in
-    record {
-      within = omega (arith, below);
-      reached = rest.0;
-      told =
-          subst (AreToldFrom (shape_of code) blocks n) (sym c.in_ok-push-2.ensures.items)
-          (told-more (shape_of code) blocks n (inputs - c.loop.counter) c.loop.told.items c.in_ok-tell-2.field-0 own more c.loop.invariant.told
-          (reached-all (shape_of code) blocks c.requires.wired 0 n own (omega arith) (omega arith) rest.1.0 rest.1.1)
-          c.in_ok-tell-2.ensures);
-    }
-
-pub returns-clause-count : goal.returns-clause-count
-returns-clause-count c =
-    omega (arith, c.loop.invariant.told.long, c.secrets.ensures, c.publics.ensures, c.loop-test.false)
 
 pub returns-clause-places : goal.returns-clause-places
 returns-clause-places c =
-    let code : Listing = c.args.code.now in
-    let none : code.secrets + code.publics - c.loop.counter ≡ 0 = omega (arith, c.secrets.ensures, c.publics.ensures, c.loop-test.false) in
-    tells-of (shape_of code) c.args.blocks.now c.requires.wired c.loop.told.items
-    (subst (λ (n : ℕ). AreToldFrom (shape_of code) c.args.blocks.now n c.loop.told.items) none c.loop.invariant.told)
+    let none : c.secrets.result + c.publics.result + length c.args.blocks.now - c.loop-done.done ≡ 0 = omega (arith, c.loop-done-test.false) in
+    tells-of (shape_of c.args.code.now) c.args.blocks.now c.requires.wired c.loop-done.told.items
+    (subst (λ (n : ℕ). AreToldFrom (shape_of c.args.code.now) c.args.blocks.now n c.loop-done.told.items) none c.loop-done.invariant.told)

@@ -1,24 +1,15 @@
--- The places of the values that are left, which they reach through the blocks from block k on; the values
--- from block k on are told of. Then the inputs are told of too, the last one first.
-use Rattle.std.proofs.Common.{◌+◌, ◌-◌, ◌≤◌, length}
+-- So many of the last values are told of, and the rows that are to be passed on to earlier ones are there.
+use Rattle.std.proofs.Common.{◌≡◌, ◌+◌, ◌-◌, length}
 use Rattle.mk_rules.specs.Shape.{shape_of}
-use Rattle.mk_report.proofs.Passed.{AreReached}
+use Rattle.mk_report.specs.Passing.{HasRows}
 use Rattle.mk_report.proofs.Telling.{AreToldFrom}
 use Rattle.mk_report.proofs.reached.reached.Given as goal
 
-abbrev pub invariant-loop-k : goal.invariant-loop-k
-invariant-loop-k l = record {
-  within : l.k ≤ length l.blocks;
-  reached : AreReached (shape_of l.code) l.blocks l.k (l.code.secrets + l.code.publics + l.k) l.needs.items;
-  told : AreToldFrom (shape_of l.code) l.blocks (l.code.secrets + l.code.publics + l.k) l.told.items;
-}
-
-abbrev pub decreases-loop-k : goal.decreases-loop-k
-decreases-loop-k l = l.k
-
-abbrev pub invariant-loop : goal.invariant-loop
-invariant-loop l = record {
-  within : l.counter ≤ l.code.secrets + l.code.publics;
-  reached : AreReached (shape_of l.code) l.blocks 0 (l.code.secrets + l.code.publics - l.counter) l.needs.items;
-  told : AreToldFrom (shape_of l.code) l.blocks (l.code.secrets + l.code.publics - l.counter) l.told.items;
+abbrev pub invariant-loop-done : goal.invariant-loop-done
+invariant-loop-done l = record {
+  first : l.inputs ≡ l.code.secrets + l.code.publics;
+  total : l.total ≡ l.code.secrets + l.code.publics + length l.blocks;
+  count : length l.rows.items ≡ l.done;
+  rows : HasRows (shape_of l.code) l.blocks l.rows.items l.index.words (l.total - l.done);
+  told : AreToldFrom (shape_of l.code) l.blocks (l.total - l.done) l.told.items;
 }

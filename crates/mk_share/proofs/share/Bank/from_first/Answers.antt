@@ -1,4 +1,4 @@
--- One more place.
+-- One more position.
 use Rattle.std.proofs.Common.{arith, ℕ, List, ◌+◌, [], ◌∷◌, ◌++◌, sym, ap, ◌∙◌}
 use Rattle.std.proofs.lemmas.List.{take_more_set, length-set}
 use Rattle.mk_share.proofs.Banks.{range-more}
@@ -6,9 +6,9 @@ use Rattle.mk_share.proofs.share.Bank.from_first.Goals as goal
 
 pub loop-share-preserved : goal.loop-share-preserved
 loop-share-preserved g c =
-    let place : ℕ = c.args.first + c.loop-share.share in (
-      take_more_set c.loop-share.regs c.loop-share.share place (omega (arith, c.loop-share-test.true, c.loop-share.invariant.1))
-          ∙ ap (λ (ps : List ℕ). ps ++ place ∷ []) c.loop-share.invariant.0
+    let position : ℕ = c.args.first + c.loop-share.share in (
+      take_more_set c.loop-share.regs c.loop-share.share position (omega (arith, c.loop-share-test.true, c.loop-share.invariant.1))
+          ∙ ap (λ (ps : List ℕ). ps ++ position ∷ []) c.loop-share.invariant.0
           ∙ sym (range-more c.args.first c.loop-share.share),
-      length-set c.loop-share.regs c.loop-share.share place ∙ c.loop-share.invariant.1,
+      length-set c.loop-share.regs c.loop-share.share position ∙ c.loop-share.invariant.1,
     )

@@ -1,0 +1,165 @@
+//! The bytes of a source, of which a reader holds a few.
+
+ghost use Rattle.std.specs.Prelude.{◌≡◌, ◌≤◌, ◌<◌, ◌+◌, ◌++◌, [], Err, IfOk, OnOk, OnErr, length, drop};
+ghost use Rattle.mk_base.specs.Outside.{Rose};
+ghost use Rattle.mk_bundle.specs.declared.refusal.StreamRefusal.TheVariants as refusals;
+
+use crate::refusal::StreamRefusal;
+use arrayvec::ArrayVec;
+use mk_base::{Memory, Source};
+use mk_lines::cut;
+use std::alloc::Global;
+use std::marker::Model;
+
+/// So many bytes are held at most.
+const MOST_HELD: usize = 4096;
+
+/// Fewer bytes than this are held before more are asked for. No line of a bundle text has as many.
+pub(crate) const MOST_LINE: usize = 192;
+
+/// So many bytes are asked of a source at once.
+const PIECE: usize = 3904;
+
+/// Bytes that came and were not read yet.
+#[derive(Debug, Drop)]
+pub(crate) struct Input {
+    bytes: Vec<u8>,
+    start: usize,
+    count: u32,
+    limit: u32,
+}
+
+impl Model for Input {
+    ghost use Rattle.std.specs.Prelude.{◌≤◌, drop, length};
+    ghost use Rattle.mk_bundle.specs.Taking.{Held};
+
+    ghost Value = { Held };
+
+    ghost view = { λ s. record { pending = drop s.start s.bytes.items; count = s.count; limit = s.limit } };
+
+    ghost invariant = { λ s. (s.start ≤ length s.bytes.items) × (length s.bytes.items ≤ 4096) × (s.count ≤ s.limit) };
+}
+
+impl Input {
+    ghost use Rattle.mk_bundle.specs.Taking.{Feeds, Drains, Fronts};
+
+    /// Nothing came yet.
+    pub(crate) fn new(alloc: Global, limit: u32) -> Result<Input, Memory>
+        ensures { IfOk result (λ s. s ≡ record { pending = []; count = 0; limit = limit }) }
+    {
+        Ok(Input {
+            bytes: Vec::with_capacity(alloc, MOST_HELD)?,
+            start: 0,
+            count: 0,
+            limit,
+        })
+    }
+
+    /// How many bytes came.
+    pub(crate) fn count(&self) -> u32
+        ensures { result ≡ self.now.count }
+    {
+        self.count
+    }
+
+    /// How many bytes are held.
+    pub(crate) fn len(&self) -> usize
+        ensures value { result ≡ length self.now.pending }
+        ensures few { result ≤ 4096 }
+    {
+        self.bytes.len() - self.start
+    }
+
+    /// The first line that is held, without its line feed.
+    pub(crate) fn line(&self) -> Option<&[u8]>
+        ensures { Fronts result self.now.pending }
+    {
+        let (line, _behind) = cut(&self.bytes[self.start..])?;
+        Some(line)
+    }
+
+    /// Gives up the first bytes.
+    pub(crate) fn pass(&mut self, count: usize)
+        requires { count ≤ length self.old.pending }
+        ensures { self.new ≡ record self.old { pending = drop count self.old.pending } }
+    {
+        self.start += count;
+    }
+
+    /// Holds these bytes too, behind the others.
+    fn append(&mut self, piece: &[u8]) -> Result<(), Memory>
+        requires few { length self.old.pending < 192 }
+        requires short { length piece.now ≤ 3904 }
+        ensures ok { OnOk result (self.new ≡ record self.old { pending = self.old.pending ++ piece.now }) }
+        ensures limit { self.new.limit ≡ self.old.limit }
+        ensures count { self.new.count ≡ self.old.count }
+        ensures fewer { OnErr result (length self.new.pending ≤ length self.old.pending) }
+    {
+        let mut kept: ArrayVec<u8, MOST_LINE> = ArrayVec::new();
+        let _kept = kept.try_extend_from_slice(&self.bytes[self.start..]);
+        self.bytes.clear();
+        self.start = 0;
+        self.bytes.extend_from_slice(kept.as_slice())?;
+        self.bytes.extend_from_slice(piece)?;
+        Ok(())
+    }
+
+    /// How many bytes may come still.
+    fn room(&self) -> usize
+        ensures { self.now.count + result ≡ self.now.limit }
+    {
+        (self.limit - self.count) as usize
+    }
+
+    /// Counts bytes that came.
+    fn came(&mut self, count: usize)
+        requires { self.old.count + count ≤ self.old.limit }
+        ensures { self.new ≡ record self.old { count = self.old.count + count } }
+    {
+        let _limit = self.limit;
+        self.count += count as u32;
+    }
+
+    /// Asks for the next bytes, and answers how many came.
+    pub(crate) fn fill<S: Source>(&mut self, src: &mut S) -> Result<usize, StreamRefusal>
+        requires { length self.old.pending < 192 }
+        ensures fed { Feeds result self.old self.new (S.left src.old) (S.left src.new) }
+        ensures limit { self.new.limit ≡ self.old.limit }
+        ensures held { length self.new.pending + self.old.count ≤ self.new.count + length self.old.pending }
+        ensures fault { result ≡ Err refusals.Fault → Rose (S.faults src.old) (S.faults src.new) }
+        ensures never_falls { S.faults src.old ≤ S.faults src.new }
+    {
+        let room = self.room();
+        let mut piece = [0u8; PIECE];
+        let count = src.read(&mut piece)?;
+        if count > room {
+            return Err(StreamRefusal::TooLong);
+        }
+        self.append(&piece[..count])?;
+        self.came(count);
+        Ok(count)
+    }
+
+    /// Reads to the end, and keeps nothing of it.
+    pub(crate) fn drain<S: Source>(&mut self, src: &mut S) -> Result<(), StreamRefusal>
+        ensures drained { Drains result self.old (S.left src.old) (S.left src.new) }
+        ensures limit { self.new.limit ≡ self.old.limit }
+        ensures held { length self.new.pending + self.old.count ≤ self.new.count + length self.old.pending }
+        ensures fault { result ≡ Err refusals.Fault → Rose (S.faults src.old) (S.faults src.new) }
+        ensures never_falls { S.faults src.old ≤ S.faults src.new }
+    {
+        let _room = self.room();
+        let mut piece = [0u8; PIECE];
+        loop {
+            let room = self.room();
+            let count = src.read(&mut piece)?;
+            if count == 0 {
+                return Ok(());
+            }
+            if count > room {
+                return Err(StreamRefusal::TooLong);
+            }
+            self.came(count);
+        }
+    }
+}

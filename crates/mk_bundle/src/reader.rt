@@ -1,0 +1,227 @@
+//! Reading a bundle's text from a source, event by event. Of the text a few bytes are held, and nothing else that
+//! grows with it but the maps of the head.
+
+ghost use Rattle.std.specs.Prelude.{◌≡◌, ◌≤◌, ◌<◌, ◌+◌, [], ℕ, List, Some, None, Err, IfOk, IfSome, IfNone, OnOk, length};
+ghost use Rattle.mk_base.specs.Outside.{Rose};
+ghost use Rattle.mk_bundle.specs.declared.refusal.StreamRefusal.TheVariants as refusals;
+ghost use Rattle.mk_bundle.specs.declared.draft.Stage.TheVariants.{Ended};
+ghost use Rattle.mk_bundle.specs.declared.event.Event.{Event};
+ghost use Rattle.mk_bundle.specs.declared.event.Event.TheVariants as event;
+
+use crate::draft::{Draft, LineRefusal, empty_draft, has_begun, is_ended, read_line, told_head};
+use crate::event::Event;
+use crate::input::{Input, MOST_LINE};
+use crate::refusal::StreamRefusal;
+use crate::step::Step;
+use mk_base::{Memory, Source};
+use std::alloc::Global;
+use std::marker::Model;
+
+/// A reader of a bundle's text.
+#[derive(Drop)]
+pub struct BundleReader {
+    alloc: Global,
+    draft: Draft,
+    waiting: Option<Event>,
+    lines: u32,
+    input: Input,
+}
+
+impl Model for BundleReader {
+    ghost use Rattle.std.specs.Prelude.{◌≤◌, ◌+◌, ◌*◌, length};
+    ghost use Rattle.mk_bundle.specs.Counting.{seen_of, HasBounds};
+    ghost use Rattle.mk_bundle.specs.Reads.{Reader};
+
+    ghost Value = { Reader };
+
+    ghost view = { λ r. record { seen = seen_of r.draft; waiting = r.waiting; lines = r.lines; pending = r.input.pending; count = r.input.count; limit = r.input.limit } };
+
+    ghost invariant = { λ r. HasBounds (seen_of r.draft) × (2 * r.lines + length r.input.pending ≤ r.input.count) };
+}
+
+impl BundleReader {
+    ghost use Rattle.mk_bundle.specs.Reads.{IsGoing, to_come, Read, Next};
+    ghost use Rattle.mk_bundle.specs.Stepping.{Hands, Stepped, Grows, Finishes, Refused};
+
+    /// A reader that took nothing yet. At most `limit` bytes may come.
+    pub fn new(alloc: Global, limit: u32) -> Result<BundleReader, Memory>
+        ensures read { IfOk result (λ r. Read r [] []) }
+        ensures going { IfOk result IsGoing }
+        ensures limit { IfOk result (λ r. r.limit ≡ limit) }
+    {
+        let input = Input::new(alloc, limit)?;
+        Ok(BundleReader {
+            alloc,
+            draft: empty_draft(alloc),
+            waiting: None,
+            lines: 0,
+            input,
+        })
+    }
+
+    /// An event is answered, or the head before it.
+    fn told(&mut self, begun: bool, event: Event) -> Event
+        requires { self.old.waiting ≡ None }
+        ensures { Hands begun event result self.old self.new }
+    {
+        if begun {
+            return event;
+        }
+        self.waiting = Some(event);
+        Event::Head(told_head(&mut self.draft, self.alloc))
+    }
+
+    /// Reads the first line that is held.
+    fn step(&mut self) -> Step
+        requires waiting { self.old.waiting ≡ None }
+        requires going { IsGoing self.old }
+        ensures { Stepped result self.old self.new }
+    {
+        let Some(line) = self.input.line() else {
+            if self.input.len() >= MOST_LINE {
+                return Step::Wrong;
+            }
+            return Step::Starved;
+        };
+        if line.is_empty() {
+            return Step::Wrong;
+        }
+        let begun = has_begun(&self.draft);
+        let len = line.len();
+        let _count = self.input.count();
+        match read_line(&mut self.draft, self.alloc, line) {
+            Err(LineRefusal::Form) => Step::Wrong,
+            Err(LineRefusal::Memory) => Step::Memory,
+            Ok(told) => {
+                self.input.pass(len + 1);
+                self.lines += 1;
+                let Some(event) = told else {
+                    return Step::Quiet;
+                };
+                if is_ended(&self.draft) {
+                    return Step::Over;
+                }
+                Step::Told(self.told(begun, event))
+            }
+        }
+    }
+
+    /// The number of the line behind those that were read.
+    fn next_line(&self) -> u32
+        ensures { result ≡ self.now.lines + 1 }
+    {
+        let _count = self.input.count();
+        self.lines + 1
+    }
+
+    /// How many bytes are held.
+    fn held(&self) -> usize
+        ensures { result ≡ length self.now.pending }
+    {
+        self.input.len()
+    }
+
+    /// Asks for the next bytes, and answers how many came.
+    fn fill<S: Source>(&mut self, src: &mut S) -> Result<usize, StreamRefusal>
+        requires { length self.old.pending < 192 }
+        ensures grows { Grows result self.old self.new (S.left src.old) (S.left src.new) }
+        ensures limit { self.new.limit ≡ self.old.limit }
+        ensures fault { result ≡ Err refusals.Fault → Rose (S.faults src.old) (S.faults src.new) }
+        ensures never_falls { S.faults src.old ≤ S.faults src.new }
+    {
+        self.input.fill(src)
+    }
+
+    /// Reads the source to its end, and names the line where the text goes wrong.
+    fn refuse<S: Source>(&mut self, src: &mut S) -> Result<Event, StreamRefusal>
+        ensures refused { Refused result self.old (S.left src.old) (S.left src.new) }
+        ensures only { IfOk result (λ _. ⊥) }
+        ensures limit { self.new.limit ≡ self.old.limit }
+        ensures fault { result ≡ Err refusals.Fault → Rose (S.faults src.old) (S.faults src.new) }
+        ensures never_falls { S.faults src.old ≤ S.faults src.new }
+    {
+        let line = self.next_line();
+        self.input.drain(src)?;
+        Err(StreamRefusal::Form { line })
+    }
+
+    /// The last event, where the source is at its end.
+    fn finish<S: Source>(&mut self, src: &mut S) -> Result<Event, StreamRefusal>
+        requires waiting { self.old.waiting ≡ None }
+        requires ended { self.old.seen.stage ≡ Ended }
+        ensures finishes { Finishes result self.old self.new (S.left src.old) (S.left src.new) }
+        ensures last { IfOk result (λ e. e ≡ event.End) }
+        ensures limit { self.new.limit ≡ self.old.limit }
+        ensures fewer { OnOk result (to_come self.new ≤ to_come self.old) }
+        ensures fault { result ≡ Err refusals.Fault → Rose (S.faults src.old) (S.faults src.new) }
+        ensures never_falls { S.faults src.old ≤ S.faults src.new }
+    {
+        if self.held() > 0 {
+            return self.refuse(src);
+        }
+        let count = self.fill(src)?;
+        if count > 0 {
+            return self.refuse(src);
+        }
+        Ok(Event::End)
+    }
+
+    /// The event that waits, which waits no more.
+    fn waited(&mut self) -> Option<Event>
+        ensures some { IfSome result (λ e. (self.old.waiting ≡ Some e) × (self.new ≡ record self.old { waiting = None })) }
+        ensures none { IfNone result ((self.old.waiting ≡ None) × (self.new ≡ self.old)) }
+    {
+        self.waiting.take()
+    }
+
+    /// The next event, where none waits.
+    fn read_on<S: Source>(&mut self, src: &mut S) -> Result<Event, StreamRefusal>
+        requires waiting { self.old.waiting ≡ None }
+        requires going { IsGoing self.old }
+        ensures next { (taken : List ℕ) (events : List Event) → Read self.old taken events → Next result self.new taken events (S.left src.old) (S.left src.new) }
+        ensures going { IfOk result (λ e. (e ≡ event.End → ⊥) → IsGoing self.new) }
+        ensures limit { self.new.limit ≡ self.old.limit }
+        ensures fewer { OnOk result (to_come self.new < to_come self.old) }
+        ensures fault { result ≡ Err refusals.Fault → Rose (S.faults src.old) (S.faults src.new) }
+        ensures never_falls { S.faults src.old ≤ S.faults src.new }
+    {
+        loop {
+            match self.step() {
+                Step::Told(event) => return Ok(event),
+                Step::Quiet => {}
+                Step::Over => return self.finish(src),
+                Step::Starved => {
+                    let line = self.next_line();
+                    let count = self.fill(src)?;
+                    if count == 0 {
+                        return Err(StreamRefusal::Form { line });
+                    }
+                }
+                Step::Wrong => return self.refuse(src),
+                Step::Memory => return Err(StreamRefusal::Memory),
+            }
+        }
+    }
+
+    /// The next event.
+    pub fn next<S: Source>(&mut self, src: &mut S) -> Result<Event, StreamRefusal>
+        // The last event was not answered yet.
+        requires { IsGoing self.old }
+
+        // Whatever bytes the reader took and events it answered before, it took those that came now too, and
+        // answered this event too, or refuses them.
+        ensures next { (taken : List ℕ) (events : List Event) → Read self.old taken events → Next result self.new taken events (S.left src.old) (S.left src.new) }
+        ensures going { IfOk result (λ e. (e ≡ event.End → ⊥) → IsGoing self.new) }
+        ensures limit { self.new.limit ≡ self.old.limit }
+        ensures fewer { OnOk result (to_come self.new < to_come self.old) }
+
+        // A fault comes only where the source counted one.
+        ensures fault { result ≡ Err refusals.Fault → Rose (S.faults src.old) (S.faults src.new) }
+        ensures never_falls { S.faults src.old ≤ S.faults src.new }
+    {
+        match self.waited() {
+            Some(event) => Ok(event),
+            None => self.read_on(src),
+        }
+    }
+}

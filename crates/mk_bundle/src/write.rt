@@ -1,0 +1,233 @@
+//! Writing the text of a bundle in pieces. It takes no memory.
+
+ghost use Rattle.std.specs.Prelude.{◌≡◌, ◌≤◌, ◌<◌, ◌+◌, ◌/◌, ◌++◌, [], ℕ, List, Some, length, IfSome, OnOk, OnErr, flat_map, codes};
+ghost use Rattle.std.specs.List.{AllByRecursion};
+ghost use Rattle.mk_base.specs.Outside.{Rose};
+ghost use Rattle.mk_base.specs.Streams.{TakesPrefix};
+ghost use Rattle.mk_base.specs.declared.TheConstants.{TOP_ORDER};
+ghost use Rattle.mk_rules.specs.declared.TheConstants.{MOST_BLOCKS, MOST_CLAIMS};
+ghost use Rattle.mk_rules.specs.Pairs.{IsPair};
+ghost use Rattle.mk_bundle.specs.Passing.{Sends, Breaks, lower_rest};
+ghost use Rattle.mk_ssa.specs.Widths.{OpFits, OperandFits};
+ghost use Rattle.mk_bundle.specs.Text.{field_line, head_lines, outputs_text, upper_text, text};
+
+use arrayvec::ArrayString;
+use mk_base::{Failed, Sink, write_all};
+use mk_code::{Code, Instr};
+use mk_field::{AddMap, FieldId};
+use mk_lines::{Line, push_number, spell_claim, spell_instr, spell_map, spell_op, spell_out};
+use mk_rules::Cert;
+use mk_ssa::{Op, Operand};
+
+/// What is held back until there is more of it.
+type Piece = ArrayString<4096>;
+
+/// What has a line of its own.
+trait Spell: Copy {
+    ghost spelled: { Self → List ℕ };
+
+    ghost fits: { Self → Type 0 };
+
+    /// Makes it this line.
+    fn spell(self, line: &mut Line)
+        ensures text { line.new.bytes ≡ spelled self }
+        ensures fits { fits self };
+}
+
+impl Spell for AddMap {
+    ghost use Rattle.mk_lines.specs.CodeLines.{map_line};
+    ghost use Rattle.mk_field.specs.Maps.{MapFits};
+
+    ghost spelled = { map_line };
+
+    ghost fits = { MapFits };
+
+    fn spell(self, line: &mut Line) {
+        spell_map(line, self);
+    }
+}
+
+impl Spell for Op {
+    ghost use Rattle.mk_lines.specs.CertLines.{op_line};
+    ghost use Rattle.mk_ssa.specs.Widths.{OpFits};
+
+    ghost spelled = { op_line };
+
+    ghost fits = { OpFits };
+
+    fn spell(self, line: &mut Line) {
+        spell_op(line, self);
+    }
+}
+
+impl Spell for Operand {
+    ghost use Rattle.mk_lines.specs.CertLines.{claim_line};
+    ghost use Rattle.mk_ssa.specs.Widths.{OperandFits};
+
+    ghost spelled = { claim_line };
+
+    ghost fits = { OperandFits };
+
+    fn spell(self, line: &mut Line) {
+        spell_claim(line, self);
+    }
+}
+
+impl Spell for Instr {
+    ghost use Rattle.std.specs.Prelude.{⊤};
+    ghost use Rattle.mk_lines.specs.CodeLines.{instr_line};
+
+    ghost spelled = { instr_line };
+
+    ghost fits = { λ _. ⊤ };
+
+    fn spell(self, line: &mut Line) {
+        spell_instr(line, self);
+    }
+}
+
+/// Puts a short text behind what is held back, which is written before where there is no room for both.
+fn put<O: Sink>(out: &mut O, piece: &mut Piece, words: &str) -> Result<(), Failed>
+    requires { length words.now ≤ 192 }
+    ensures sends { OnOk result (Sends (O.taken out.old) piece.old.bytes words.now (O.taken out.new) piece.new.bytes) }
+    ensures breaks { OnErr result (Breaks (O.taken out.old) piece.old.bytes words.now (O.taken out.new)) }
+    ensures failed { OnErr result (Rose (O.faults out.old) (O.faults out.new)) }
+    ensures never_falls { O.faults out.old ≤ O.faults out.new }
+{
+    if piece.remaining_capacity() < words.len() {
+        write_all(out, piece.as_str().as_bytes())?;
+        piece.clear();
+    }
+    piece.push_str(words);
+    Ok(())
+}
+
+/// Puts the lines of these.
+fn put_all<O: Sink, T: Spell>(out: &mut O, piece: &mut Piece, items: &[T]) -> Result<(), Failed>
+    ensures sends { OnOk result (Sends (O.taken out.old) piece.old.bytes (flat_map T.spelled items.now) (O.taken out.new) piece.new.bytes) }
+    ensures fits { OnOk result (AllByRecursion T.fits items.now) }
+    ensures breaks { OnErr result (Breaks (O.taken out.old) piece.old.bytes (flat_map T.spelled items.now) (O.taken out.new)) }
+    ensures failed { OnErr result (Rose (O.faults out.old) (O.faults out.new)) }
+    ensures never_falls { O.faults out.old ≤ O.faults out.new }
+{
+    let mut line = Line::new();
+    for item in items {
+        item.spell(&mut line);
+        put(out, piece, line.as_str())?;
+    }
+    Ok(())
+}
+
+/// Makes it the first lines, which are short: the form's version, the field, the order and the numbers of
+/// inputs.
+fn spell_head(line: &mut Line, code: &Code)
+    ensures { line.new.bytes ≡ head_lines code.now }
+{
+    line.clear();
+    line.push_str("mask 1\n");
+    line.push_str(field_line(code.field()));
+    line.push_str("order ");
+    push_number(line, u32::from(code.order()));
+    line.push_str("\nsecrets ");
+    push_number(line, code.secrets());
+    line.push_str("\npublics ");
+    push_number(line, code.publics());
+    line.push_str("\n");
+}
+
+/// The line of a field.
+fn field_line(field: FieldId) -> &'static str
+    ensures line { result.now ≡ field_line field }
+    ensures short { length result.now ≤ 12 }
+{
+    match field {
+        FieldId::Gf2 => "field gf2\n",
+        FieldId::Gf256 => "field gf256\n",
+    }
+}
+
+/// How many shares an output has.
+fn shares_of(code: &Code) -> usize
+    ensures shares { result ≡ code.now.order + 1 }
+    ensures few { result ≤ TOP_ORDER + 1 }
+{
+    code.law();
+    usize::from(code.order()) + 1
+}
+
+/// Puts the lines of the outputs, each of which has the next positions of its shares.
+fn put_outs<O: Sink>(out: &mut O, piece: &mut Piece, code: &Code) -> Result<(), Failed>
+    ensures sends { OnOk result (Sends (O.taken out.old) piece.old.bytes (outputs_text code.now) (O.taken out.new) piece.new.bytes) }
+    ensures breaks { OnErr result (Breaks (O.taken out.old) piece.old.bytes (outputs_text code.now) (O.taken out.new)) }
+    ensures failed { OnErr result (Rose (O.faults out.old) (O.faults out.new)) }
+    ensures never_falls { O.faults out.old ≤ O.faults out.new }
+{
+    let shares = shares_of(code);
+    let positions = code.outs().as_slice();
+    let mut line = Line::new();
+    let mut rest = positions;
+    for _output in 0..positions.len() / shares {
+        let (first, behind) = rest.split_at(shares);
+        spell_out(&mut line, first);
+        put(out, piece, line.as_str())?;
+        rest = behind;
+    }
+    Ok(())
+}
+
+/// Puts the lines before that of the code.
+fn put_upper<O: Sink>(
+    out: &mut O,
+    piece: &mut Piece,
+    code: &Code,
+    cert: &Cert,
+) -> Result<(), Failed>
+    ensures sends { OnOk result (Sends (O.taken out.old) piece.old.bytes (upper_text code.now cert.now) (O.taken out.new) piece.new.bytes) }
+    ensures blocks { OnOk result (AllByRecursion OpFits cert.now.blocks) }
+    ensures claims { OnOk result (AllByRecursion OperandFits cert.now.claims) }
+    ensures breaks { OnErr result (Breaks (O.taken out.old) piece.old.bytes (upper_text code.now cert.now) (O.taken out.new)) }
+    ensures failed { OnErr result (Rose (O.faults out.old) (O.faults out.new)) }
+    ensures never_falls { O.faults out.old ≤ O.faults out.new }
+{
+    let mut head = Line::new();
+    spell_head(&mut head, code);
+    put(out, piece, head.as_str())?;
+    put_all(out, piece, code.maps().as_slice())?;
+    put_all(out, piece, cert.blocks().as_slice())?;
+    put_all(out, piece, cert.claims().as_slice())
+}
+
+/// Puts the line `code` and those behind it.
+fn put_lower<O: Sink>(out: &mut O, piece: &mut Piece, code: &Code) -> Result<(), Failed>
+    ensures sends { OnOk result (Sends (O.taken out.old) piece.old.bytes (lower_rest code.now) (O.taken out.new) piece.new.bytes) }
+    ensures breaks { OnErr result (Breaks (O.taken out.old) piece.old.bytes (lower_rest code.now) (O.taken out.new)) }
+    ensures failed { OnErr result (Rose (O.faults out.old) (O.faults out.new)) }
+    ensures never_falls { O.faults out.old ≤ O.faults out.new }
+{
+    put(out, piece, "code\n")?;
+    put_all(out, piece, code.instrs().as_slice())?;
+    put_outs(out, piece, code)?;
+    put(out, piece, "end\n")
+}
+
+/// Writes the bundle text of a code and its certificate, in pieces. The limits are those of the text that a
+/// certificate doesn't keep by itself. It takes no memory.
+pub fn write_bundle<O: Sink>(out: &mut O, code: &Code, cert: &Cert) -> Result<(), Failed>
+    requires blocks { length cert.now.blocks ≤ MOST_BLOCKS }
+    requires claims { length cert.now.claims ≤ MOST_CLAIMS }
+    // The pair has a text, and the sink took just that.
+    ensures pair { OnOk result (IsPair code.now cert.now) }
+    ensures ok { OnOk result (IfSome (O.taken out.old) (λ before. O.taken out.new ≡ Some (before ++ text code.now cert.now))) }
+
+    // A fault comes only where the sink counted one, and the sink then took a prefix of the text.
+    ensures failed { OnErr result (Rose (O.faults out.old) (O.faults out.new)) }
+    ensures prefix { OnErr result (IfSome (O.taken out.old) (λ before. TakesPrefix before (text code.now cert.now) (O.taken out.new))) }
+    ensures never_falls { O.faults out.old ≤ O.faults out.new }
+{
+    code.law();
+    let mut piece = Piece::new();
+    put_upper(out, &mut piece, code, cert)?;
+    put_lower(out, &mut piece, code)?;
+    let held = piece.as_str().as_bytes();
+    write_all(out, held)
+}

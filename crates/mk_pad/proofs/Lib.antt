@@ -1,0 +1,11 @@
+pub mod Raised
+pub mod Combining
+pub mod Values
+pub mod Roots
+pub mod Unique
+pub mod Entries
+pub mod Equal
+pub mod Right
+pub mod Adding
+pub mod Walk
+pub mod Different

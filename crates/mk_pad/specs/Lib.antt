@@ -1,0 +1,6 @@
+pub mod Form
+pub mod Polynomial
+pub mod Positions
+pub mod Value
+pub mod Laws
+pub mod Examples
