@@ -17,7 +17,8 @@ use Rattle.mk_ast.specs.declared.tree.Expr.TheVariants as expr
 use Rattle.mk_ast.specs.declared.tree.Expr.TheOpen.{Expr-F}
 use Rattle.mk_ast.specs.declared.tree.Expr.TheViews as expr_views
 use Rattle.mk_ast.specs.declared.tree.Index.{Index}
-use Rattle.mk_ast.specs.Tokens.{Token, IsName, hex_value, IsElement}
+use Rattle.mk_base.specs.Digits.{hex_value}
+use Rattle.mk_ast.specs.Tokens.{Token, IsName, IsElement}
 use Rattle.mk_ast.specs.Phrases.{after, until, optional, several}
 use Rattle.mk_ast.specs.Grammar.{size, bracketed, index_sum, reference, factor, product, sum_with, sum, assignment, statement, declaration, most_brackets}
 use Rattle.mk_ast.specs.Spells.{Spells}

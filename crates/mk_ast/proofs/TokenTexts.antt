@@ -1,6 +1,7 @@
 -- Words, numbers, elements and symbols as tokens.
 use Rattle.std.proofs.Common.{◌≡◌, ◌≢◌, ℕ, zero, suc, ◌+◌, ◌*◌, ◌/◌, ◌%◌, ◌<◌, ◌≤◌, inl, inr, List, [], ◌∷◌, ◌++◌, Some, refl, Contains, codes, decimal, arith, lit<}
-use Rattle.mk_ast.specs.Tokens.{IsToken, IsWord, IsName, IsElement, hex_value, symbols, NothingGoesOn, IsGap}
+use Rattle.mk_base.specs.Digits.{hex_value}
+use Rattle.mk_ast.specs.Tokens.{IsToken, IsWord, IsName, IsElement, symbols, NothingGoesOn, IsGap}
 use Rattle.mk_ast.specs.Phrases.{Phrase, after}
 use Rattle.mk_ast.specs.Grammar.{name, number, size, element, meaning}
 use Rattle.mk_ast.specs.Canonical.{element_text}

@@ -1,7 +1,7 @@
 -- The tokens of source texts: words, numbers, elements and symbols, with blanks and comments between
 -- them. The language is this project's own; docs/LANGUAGE.md has its grammar.
 use Rattle.std.specs.Prelude.{◌≡◌, ◌≢◌, ℕ, ◌+◌, ◌-◌, ◌*◌, ◌<◌, ◌==◌, Bool, false, not, ◌||◌, IsTrue, ◌⊎◌, List, [], ◌∷◌, ◌++◌, length, take, reverse, filter, Option, Some, None, nat_lt, if◌then◌else◌, Contains, codes}
-use Rattle.mk_base.specs.Digits.{IsDecimal}
+use Rattle.mk_base.specs.Digits.{IsDecimal, hex_value}
 use Rattle.mk_ast.specs.declared.TheConstants.{GREATEST_NUMBER}
 use Rattle.std.specs.List.{AllByRecursion, take_while}
 use Rattle.std.specs.Char.{is_ascii_alphabetic, is_ascii_alphanumeric}
@@ -69,16 +69,6 @@ IsName text = IsWord text × (Contains reserved text → ⊥)
 -- a number is written in decimal digits without leading zeros, and is at most 65,535
 abbrev pub IsNumber : ℕ → List ℕ → Type 0
 IsNumber n text = IsDecimal GREATEST_NUMBER n text
-
--- the value of a hexadecimal digit of either case
-abbrev pub hex_value : ℕ → Option ℕ
-hex_value c =
-    if nat_lt c 48 then None else (
-    if nat_lt c 58 then Some (c - 48) else (
-    if nat_lt c 65 then None else (
-    if nat_lt c 71 then Some (c - 55) else (
-    if nat_lt c 97 then None else (
-    if nat_lt c 103 then Some (c - 87) else None)))))
 
 -- an element is `0x` and two hexadecimal digits
 abbrev pub IsElement : ℕ → List ℕ → Type 0

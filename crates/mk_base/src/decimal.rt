@@ -1,7 +1,7 @@
-//! Numbers in decimal.
+//! Numbers in decimal, and hexadecimal digits.
 
-ghost use Rattle.std.specs.Prelude.{◌≡◌, ℕ, ◌<◌, ◌↔◌, length, slice_index, IsTrue, MatchOption};
-ghost use Rattle.mk_base.specs.Digits.{IsDecimal};
+ghost use Rattle.std.specs.Prelude.{◌≡◌, ℕ, ◌<◌, ◌≤◌, ◌↔◌, length, slice_index, IsTrue, IfSome, MatchOption};
+ghost use Rattle.mk_base.specs.Digits.{IsDecimal, hex_value};
 
 /// Whether there is a digit, and `0` is the first one only where it is the only one.
 fn leads(digits: &[u8]) -> bool
@@ -32,4 +32,30 @@ pub fn decimal_number(text: &[u8], most: u32) -> Option<u32>
         }
     }
     Some(value as u32)
+}
+
+/// The value of a hexadecimal digit of either case.
+pub fn hex_value(digit: u8) -> Option<u8>
+    ensures value { result ≡ hex_value digit }
+    ensures low { IfSome result (λ value. value ≤ 15) }
+{
+    if digit < b'0' {
+        return None;
+    }
+    if digit < b'0' + 10 {
+        return Some(digit - b'0');
+    }
+    if digit < b'A' {
+        return None;
+    }
+    if digit < b'A' + 6 {
+        return Some(digit - b'A' + 10);
+    }
+    if digit < b'a' {
+        return None;
+    }
+    if digit < b'a' + 6 {
+        return Some(digit - b'a' + 10);
+    }
+    None
 }

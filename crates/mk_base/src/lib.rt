@@ -11,7 +11,7 @@ mod outside;
 mod plain;
 mod streams;
 
-pub use decimal::decimal_number;
+pub use decimal::{decimal_number, hex_value};
 pub use inputs::{InputRefusal, check_each, check_number};
 pub use items::{Bytes, Items, Memory, Words};
 pub use memory::{MemSink, MemSource};

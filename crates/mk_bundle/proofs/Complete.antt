@@ -22,6 +22,7 @@ use Rattle.mk_lines.specs.CertLines.{op_line, claim_line}
 use Rattle.mk_lines.specs.CodeLines.{map_line, instr_line, position_word, out_line, out_lines}
 use Rattle.mk_ssa.specs.Widths.{OperandFits, OpFits}
 use Rattle.mk_field.specs.Maps.{MapFits}
+use Rattle.mk_field.proofs.Raised.{element-byte}
 use Rattle.mk_bundle.specs.Text.{field_line, number_line, head_lines, text}
 use Rattle.mk_lines.specs.Lines.{AreLines}
 use Rattle.mk_rules.specs.Pairs.{IsPair}
@@ -176,7 +177,6 @@ with_cert code blocks claims = at Upper (record { field = code.field; order = co
 
 -- a field that has a map is one of bytes
 field_has_maps : (field : FieldId) (done left : List AddMap) (map : AddMap) (all : List AddMap) → done ++ map ∷ left ≡ all → HasMapsOnlyInBytes field all → has_maps field ≡ true
-unfolding has_maps
 field_has_maps Gf2 done left map all e none = absurd (omega (arith, fewer_done done map left all e, ap length none))
 field_has_maps Gf256 done left map all e bytes = refl
 
@@ -235,15 +235,10 @@ fits_again field maps len (instr.Mul left right) fits = and_from (nat_lt left le
 fits_again field maps len (instr.Sq from) fits = lt-ltb from len fits
 fits_again field maps len (instr.Map map from) fits = and_from (nat_lt map maps) (nat_lt from len) (lt-ltb map maps fits.0) (lt-ltb from len fits.1)
 
--- an element of either field is a byte
-is_byte : (field : FieldId) (value : ℕ) → value < size field → value < 256
-is_byte Gf2 value small = omega (arith, small)
-is_byte Gf256 value small = omega (arith, small)
-
 -- in a trace of less than 2^32 entries the numbers of an instruction that fits have 32 bits
 pub instr_fits : (field : FieldId) (maps len : ℕ) (i : Instr) → maps ≤ 32768 → len < 2 ^ 32 → FitsAt field maps len i → InstrFits i
 instr_fits field maps len instr.Rnd few short fits = tt
-instr_fits field maps len (instr.Const value) few short fits = is_byte field value fits
+instr_fits field maps len (instr.Const value) few short fits = element-byte field value fits
 instr_fits field maps len (instr.Copy from) few short fits = omega (arith, fits)
 instr_fits field maps len (instr.Add left right) few short fits = (omega (arith, fits.0), omega (arith, fits.1))
 instr_fits field maps len (instr.Mul left right) few short fits = (omega (arith, fits.0), omega (arith, fits.1))

@@ -11,3 +11,4 @@ pub mod Stepping
 pub mod Marking
 pub mod Ending
 pub mod Gathering
+pub mod Instrs

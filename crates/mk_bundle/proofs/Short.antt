@@ -19,7 +19,7 @@ use Rattle.mk_rules.specs.Claimed.{Claimed}
 use Rattle.mk_lines.specs.Words.{line, operand_word}
 use Rattle.mk_lines.specs.CertLines.{pair_words, mapped_words}
 use Rattle.mk_lines.specs.CodeLines.{position_word}
-use Rattle.mk_lines.specs.Parsing.{after, map_of, operand_of, op_of, instr_of, positions_of}
+use Rattle.mk_lines.specs.Parsing.{after, map_of, operand_of, op_of, instr_of, instr_at, add_at, mul_or_map_at, rnd_at, const_or_copy_at, sq_at, positions_of}
 use Rattle.mk_lines.proofs.Steps.{bind_some, passed, behind_found, is_word, chosen}
 use Rattle.mk_lines.proofs.Spelled.{map_found, operand_of_found, positions_found, number_words}
 use Rattle.mk_lines.proofs.Variants.{op_words, op_found, instr_words, instr_found, InstrFits}
@@ -163,7 +163,7 @@ line_short Ended code cert l next good e = absurd cc
 
 -- no empty line is read
 pub empty_stuck : (stage : Stage) (st : State) → read_at stage st [] ≡ None
-unfolding read_at version_line field_read field_line_of order_read secrets_read publics_read headed upper_read code_read lower_read instr_read instr_of after
+unfolding read_at version_line field_read field_line_of order_read secrets_read publics_read headed upper_read code_read lower_read instr_read instr_of instr_at add_at mul_or_map_at rnd_at const_or_copy_at sq_at after
 empty_stuck Version st = refl
 empty_stuck Field st = refl
 empty_stuck Order st = refl

@@ -123,7 +123,6 @@ no_maps Gf256 maps none = tt
 
 -- in a field that has maps, there may be any
 some_maps : (field : FieldId) (maps : List AddMap) → has_maps field ≡ true → HasMapsOnlyInBytes field maps
-unfolding has_maps
 some_maps Gf2 maps e = absurd cc
 some_maps Gf256 maps e = tt
 

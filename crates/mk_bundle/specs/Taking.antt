@@ -1,7 +1,9 @@
 -- What a reader holds of a source: bytes that came and were not read yet.
 use Rattle.std.specs.Prelude.{◌≡◌, ℕ, ◌+◌, ◌≤◌, ◌<◌, true, List, [], ◌∷◌, ◌++◌, length, Option, Some, None, IfSome, Result, Ok, Err}
 use Rattle.std.specs.Borrow.{Bor}
+use Rattle.mk_code.specs.declared.instr.Instr.{Instr}
 use Rattle.mk_lines.specs.Words.{is_line}
+use Rattle.mk_lines.specs.Parsing.{instr_of}
 use Rattle.mk_bundle.specs.declared.refusal.StreamRefusal.{StreamRefusal}
 use Rattle.mk_bundle.specs.declared.refusal.StreamRefusal.TheVariants as refusals
 
@@ -64,3 +66,13 @@ Drains (Err refusals.Memory) old before after = Unit {0}
 abbrev pub Fronts : Option (Bor (List ℕ)) → List ℕ → Type 0
 Fronts (Some l) pending = (is_line l.now ≡ true) × ((behind : List ℕ) × (pending ≡ l.now ++ 10 ∷ behind))
 Fronts None pending = is_line pending ≡ true
+
+-- the first line that is held is that of this instruction, and has n bytes before its line feed
+pub record IsInstrLine (i : Instr) (n : ℕ) (pending : List ℕ) : Type 0 where
+  pub line : List ℕ
+  pub clean : is_line line ≡ true
+  pub reads : instr_of line ≡ Some i
+  pub len : length line ≡ n
+  pub some : 1 ≤ n
+  pub behind : List ℕ
+  pub here : pending ≡ line ++ 10 ∷ behind

@@ -1,7 +1,7 @@
 //! What was read of a bundle text so far, and how a line goes on with it.
 
 ghost use Rattle.std.specs.Prelude.{◌≡◌, ◌≤◌, ◌<◌, ◌+◌, [], IfSome, IsTrue, ◌↔◌};
-ghost use Rattle.mk_bundle.specs.declared.draft.Stage.TheVariants.{Ended};
+ghost use Rattle.mk_bundle.specs.declared.draft.Stage.TheVariants.{Lower, Ended};
 ghost use Rattle.mk_field.specs.Field.{size};
 ghost use Rattle.mk_code.specs.declared.TheConstants.{MOST_MAPS, MOST_INSTRS};
 ghost use Rattle.mk_rules.specs.declared.TheConstants.{MOST_BLOCKS};
@@ -335,7 +335,7 @@ fn fits_at(field: FieldId, maps: u32, len: u32, instr: Instr) -> bool
 
 /// Whether the instruction may stand here: before outputs.
 #[tactic(auto, unfolding(crate::specs::Counting::instr_counts))]
-fn may_instr(draft: &Draft, instr: Instr) -> bool
+pub(crate) fn may_instr(draft: &Draft, instr: Instr) -> bool
     requires { HasBounds (seen_of draft.now) }
     ensures counts { result ≡ instr_counts (seen_of draft.now) instr }
     ensures few { IsTrue result → draft.now.instrs < MOST_INSTRS }
@@ -343,6 +343,14 @@ fn may_instr(draft: &Draft, instr: Instr) -> bool
     draft.outs < 1
         && draft.instrs < MOST_INSTRS
         && fits_at(draft.field, draft.maps, trace_len(draft), instr)
+}
+
+/// One instruction more.
+pub(crate) fn count_instr(draft: &mut Draft)
+    requires { draft.old.instrs < MOST_INSTRS }
+    ensures { seen_of draft.new ≡ record (seen_of draft.old) { instrs = draft.old.instrs + 1 } }
+{
+    draft.instrs += 1;
 }
 
 /// The line of an instruction.
@@ -356,7 +364,7 @@ fn read_instr(draft: &mut Draft, line: &[u8]) -> Line
     if !may_instr(draft, instr) {
         return Err(LineRefusal::Form);
     }
-    draft.instrs += 1;
+    count_instr(draft);
     Ok(Some(Event::Instr(instr)))
 }
 
@@ -453,6 +461,13 @@ pub(crate) fn has_begun(draft: &Draft) -> bool
         Stage::Upper => !(draft.blocks < 1 && draft.claims < 1),
         Stage::Lower | Stage::Ended => true,
     }
+}
+
+/// Whether the line `code` was read, and the last one was not.
+pub(crate) fn is_lower(draft: &Draft) -> bool
+    ensures { IsTrue result ↔ (draft.now.stage ≡ Lower) }
+{
+    matches!(draft.stage, Stage::Lower)
 }
 
 /// Whether the last line was read.

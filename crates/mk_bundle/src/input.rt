@@ -1,13 +1,14 @@
 //! The bytes of a source, of which a reader holds a few.
 
-ghost use Rattle.std.specs.Prelude.{◌≡◌, ◌≤◌, ◌<◌, ◌+◌, ◌++◌, [], Err, IfOk, OnOk, OnErr, length, drop};
+ghost use Rattle.std.specs.Prelude.{◌≡◌, ◌≤◌, ◌<◌, ◌+◌, ◌++◌, [], Err, ℕ, IfOk, IfSome, IfNone, OnOk, OnErr, length, drop};
 ghost use Rattle.mk_base.specs.Outside.{Rose};
 ghost use Rattle.mk_bundle.specs.declared.refusal.StreamRefusal.TheVariants as refusals;
 
 use crate::refusal::StreamRefusal;
 use arrayvec::ArrayVec;
 use mk_base::{Memory, Source};
-use mk_lines::cut;
+use mk_code::Instr;
+use mk_lines::{cut, instr_at};
 use std::alloc::Global;
 use std::marker::Model;
 
@@ -41,7 +42,8 @@ impl Model for Input {
 }
 
 impl Input {
-    ghost use Rattle.mk_bundle.specs.Taking.{Feeds, Drains, Fronts};
+    ghost use Rattle.mk_code.specs.declared.instr.Instr.{Instr};
+    ghost use Rattle.mk_bundle.specs.Taking.{Feeds, Drains, Fronts, IsInstrLine};
 
     /// Nothing came yet.
     pub(crate) fn new(alloc: Global, limit: u32) -> Result<Input, Memory>
@@ -70,12 +72,36 @@ impl Input {
         self.bytes.len() - self.start
     }
 
+    /// The bytes that are held.
+    fn bytes(&self) -> &[u8]
+        ensures { result.now ≡ self.now.pending }
+    {
+        &self.bytes[self.start..]
+    }
+
     /// The first line that is held, without its line feed.
     pub(crate) fn line(&self) -> Option<&[u8]>
         ensures { Fronts result self.now.pending }
     {
-        let (line, _behind) = cut(&self.bytes[self.start..])?;
+        let (line, _behind) = cut(self.bytes())?;
         Some(line)
+    }
+
+    /// The instruction of the first line that is held, and how many bytes its line has before the line feed. `None`
+    /// where it isn't the line of an instruction.
+    pub(crate) fn instr(&self) -> Option<(Instr, usize)>
+        ensures some { IfSome result (λ x. IsInstrLine x.0 x.1 self.now.pending) }
+        ensures none { IfNone result ((i : Instr) (n : ℕ) → IsInstrLine i n self.now.pending → ⊥) }
+    {
+        let held = self.bytes();
+        let (instr, behind) = instr_at(held)?;
+        let [feed, ..] = behind else {
+            return None;
+        };
+        if *feed != b'\n' {
+            return None;
+        }
+        Some((instr, held.len() - behind.len()))
     }
 
     /// Gives up the first bytes.

@@ -8,12 +8,16 @@ ghost use Rattle.mk_bundle.specs.declared.draft.Stage.TheVariants.{Ended};
 ghost use Rattle.mk_bundle.specs.declared.event.Event.{Event};
 ghost use Rattle.mk_bundle.specs.declared.event.Event.TheVariants as event;
 
-use crate::draft::{Draft, LineRefusal, empty_draft, has_begun, is_ended, read_line, told_head};
+use crate::draft::{
+    Draft, LineRefusal, count_instr, empty_draft, has_begun, is_ended, is_lower, may_instr,
+    read_line, told_head,
+};
 use crate::event::Event;
 use crate::input::{Input, MOST_LINE};
 use crate::refusal::StreamRefusal;
 use crate::step::Step;
 use mk_base::{Memory, Source};
+use mk_code::Instr;
 use std::alloc::Global;
 use std::marker::Model;
 
@@ -41,7 +45,7 @@ impl Model for BundleReader {
 
 impl BundleReader {
     ghost use Rattle.mk_bundle.specs.Reads.{IsGoing, to_come, Read, Next};
-    ghost use Rattle.mk_bundle.specs.Stepping.{Hands, Stepped, Grows, Finishes, Refused};
+    ghost use Rattle.mk_bundle.specs.Stepping.{Hands, Tells, Stepped, Grows, Finishes, Refused};
 
     /// A reader that took nothing yet. At most `limit` bytes may come.
     pub fn new(alloc: Global, limit: u32) -> Result<BundleReader, Memory>
@@ -71,8 +75,41 @@ impl BundleReader {
         Event::Head(told_head(&mut self.draft, self.alloc))
     }
 
+    /// Reads the first line that is held, where it is that of an instruction that may stand there. Nothing is read
+    /// otherwise.
+    fn quick_instr(&mut self) -> Option<Instr>
+        requires { self.old.waiting ≡ None }
+        ensures some { IfSome result (λ i. Tells (event.Instr i) self.old self.new) }
+        ensures none { IfNone result (self.new ≡ self.old) }
+    {
+        if !is_lower(&self.draft) {
+            return None;
+        }
+        let (instr, len) = self.input.instr()?;
+        if !may_instr(&self.draft, instr) {
+            return None;
+        }
+        let _count = self.input.count();
+        count_instr(&mut self.draft);
+        self.input.pass(len + 1);
+        self.lines += 1;
+        Some(instr)
+    }
+
     /// Reads the first line that is held.
     fn step(&mut self) -> Step
+        requires waiting { self.old.waiting ≡ None }
+        requires going { IsGoing self.old }
+        ensures { Stepped result self.old self.new }
+    {
+        match self.quick_instr() {
+            Some(instr) => Step::Told(Event::Instr(instr)),
+            None => self.step_any(),
+        }
+    }
+
+    /// Reads the first line that is held, of any kind.
+    fn step_any(&mut self) -> Step
         requires waiting { self.old.waiting ≡ None }
         requires going { IsGoing self.old }
         ensures { Stepped result self.old self.new }
@@ -171,6 +208,9 @@ impl BundleReader {
         ensures some { IfSome result (λ e. (self.old.waiting ≡ Some e) × (self.new ≡ record self.old { waiting = None })) }
         ensures none { IfNone result ((self.old.waiting ≡ None) × (self.new ≡ self.old)) }
     {
+        if self.waiting.is_none() {
+            return None;
+        }
         self.waiting.take()
     }
 

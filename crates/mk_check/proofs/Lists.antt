@@ -1,9 +1,8 @@
 -- Where two lists first differ.
-use Rattle.std.proofs.Common.{◌≡◌, true, false, nat_lt, refl, ℕ, zero, suc, ◌+◌, ◌<◌, ◌≤◌, List, [], ◌∷◌, ◌++◌, length, take, get_or, slice_get, Some, None, sym, ◌∙◌, ap, arith}
-use Rattle.std.proofs.lemmas.List.{take_more, take_more_same}
-use Rattle.std.proofs.lemmas.Option.{slice_get_past, slice_get_within, get_or_from_slice_get, slice_get_read, slice_get-get_or, same_Some, none-some}
-use Rattle.std.proofs.lemmas.Bool.{ltb-true, ltb-false}
-use Rattle.mk_rules.specs.Faults.{FirstMismatch}
+use Rattle.std.proofs.Common.{◌≡◌, true, false, nat_lt, refl, ℕ, zero, suc, ◌+◌, ◌<◌, ◌≤◌, List, [], ◌∷◌, ◌++◌, length, take, get_or, slice_get, slice_index, Some, None, inl, inr, sym, ◌∙◌, ap, subst, arith}
+use Rattle.std.proofs.lemmas.List.{take_more_same, get_or_append_left, get_or_push}
+use Rattle.std.proofs.lemmas.Option.{slice_get_past, slice_get_within, get_or_from_slice_get, slice_get_read}
+use Rattle.std.proofs.lemmas.Bool.{ltb-true, ltb-false, cases_lt}
 
 -- one equal element more
 pub take-same-more : {X : Type 0} (xs ys : List X) (position : ℕ) (d y : X) → position < length xs → take position xs ≡ take position ys
@@ -33,31 +32,12 @@ pub agree-more : {X : Type 0} (xs ys : List X) (position : ℕ) (found wanted : 
 agree-more xs ys position found wanted same here there equal =
     take-same-more xs ys position found wanted (slice_get_within xs position found here) same there (get_or_from_slice_get xs position found found here ∙ equal)
 
--- another element there
-pub other-at : {X : Type 0} (xs ys : List X) (position : ℕ) (found wanted : X) → take position xs ≡ take position ys → slice_get xs position ≡ Some found
-    → slice_get ys position ≡ Some wanted → (found ≡ wanted → ⊥) → FirstMismatch xs ys position
-other-at xs ys position found wanted same here there other = record {
-  before = same;
-  differ = λ e. other (same_Some found wanted (sym here ∙ e ∙ there));
-}
-
--- none there
-pub ended-at : {X : Type 0} (xs ys : List X) (position : ℕ) (wanted : X) → take position xs ≡ take position ys → slice_get xs position ≡ None
-    → slice_get ys position ≡ Some wanted → FirstMismatch xs ys position
-ended-at xs ys position wanted same here there = record {
-  before = same;
-  differ = λ e. none-some wanted (sym here ∙ e ∙ there);
-}
-
--- a front with the next element
-pub take-next : {X : Type 0} (xs : List X) (k : ℕ) (x : X) → slice_get xs k ≡ Some x → take (k + 1) xs ≡ take k xs ++ x ∷ []
-take-next xs k x there =
-    take_more xs k x (slice_get_within xs k x there) ∙ ap (λ (y : _). take k xs ++ y ∷ []) (get_or_from_slice_get xs k x x there)
-
--- a list that goes on where the other one has ended
-pub goes_on-at : {X : Type 0} (xs ys : List X) (position : ℕ) → take position xs ≡ take position ys → position < length xs → length ys ≤ position → FirstMismatch xs ys position
-goes_on-at [] ys position same within ended = absurd (omega (arith, within))
-goes_on-at (x ∷ xs) ys position same within ended = record {
-  before = same;
-  differ = λ e. none-some (get_or (x ∷ xs) position x) (sym (slice_get_past ys position ended) ∙ sym e ∙ slice_get-get_or (x ∷ xs) position x within);
-}
+-- what holds of each element of a list and of the next one
+pub each-pushed : (P : ℕ → ℕ → Type 0) (xs : List ℕ) (n x : ℕ) → length xs ≡ n → ((k : ℕ) → k < n → P k (slice_index xs k)) → P n x
+    → (k : ℕ) → k < n + 1 → P k (slice_index (xs ++ x ∷ []) k)
+each-pushed P xs n x count each last k below = elim (cases_lt k n) [
+  | inl before ↦ subst (P k) (sym (get_or_append_left xs (x ∷ []) 0 k (omega (arith, before, count)))) (each k before)
+  | inr late ↦
+      let same : n ≡ k = omega (arith, late, below) in
+      subst (P k) (sym (get_or_push xs x 0 k (count ∙ same))) (subst (λ (j : ℕ). P j x) same last)
+]

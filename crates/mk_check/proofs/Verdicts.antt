@@ -1,5 +1,5 @@
 -- What follows from the causes of refusals.
-use Rattle.std.proofs.Common.{◌≡◌, ℕ, ◌+◌, Result, Ok, Err, OnOk, ◌∙◌, subst, ap, ◌⊎◌, List, IfErr, sym}
+use Rattle.std.proofs.Common.{◌≡◌, ℕ, ◌+◌, Result, Ok, Err, OnOk, ◌∙◌, subst, ap, IfErr}
 use Rattle.mk_code.specs.Listing.{Listing, HasElementImages}
 use Rattle.mk_code.specs.Private.{Private}
 use Rattle.mk_ssa.specs.declared.Op.{Op}
@@ -7,10 +7,9 @@ use Rattle.mk_ssa.specs.declared.Operand.{Operand as Value}
 use Rattle.mk_gadget.specs.Gadget.{Gadget}
 use Rattle.mk_gadget.specs.Product.{product_gadget}
 use Rattle.mk_gadget.specs.Refresh.{refresh_gadget}
-use Rattle.mk_rules.specs.Shape.{Shape, shape_of}
+use Rattle.mk_rules.specs.Shape.{shape_of}
 use Rattle.mk_rules.specs.Claimed.{Claimed}
 use Rattle.mk_rules.specs.Accepts.{IsAccepted, Outputs, Accepts}
-use Rattle.mk_rules.specs.Privacy.{HaveTemplates}
 use Rattle.mk_rules.specs.Reaches.{Undoubled, links}
 use Rattle.mk_rules.specs.Tiles.{Tiles, laid, input_banks, first_position, banks_of}
 use Rattle.mk_rules.specs.Wired.{Wired}
@@ -19,8 +18,8 @@ use Rattle.mk_rules.proofs.Operators.{IsGiven}
 use Rattle.mk_rules.proofs.Faults.{FirstUnwired-not, FirstUnwired-only, FirstMismatch-not, FirstMismatch-only, FirstWrongOutput-only}
 use Rattle.mk_rules.proofs.Claims.{FirstWrongOutput-not}
 use Rattle.mk_rules.proofs.Doubled.{FirstDoubled-not, FirstDoubled-block, FirstDoubled-value}
-use Rattle.mk_rules.proofs.BuiltIn.{built_in-given, built_in-templates, accepted_built_in-private}
-use Rattle.mk_check.specs.Gadgets.{Gadgets, built_in_gadgets}
+use Rattle.mk_rules.proofs.BuiltIn.{built_in-given, accepted_built_in-private}
+use Rattle.mk_check.specs.Passing.{IsDoubling}
 use Rattle.mk_check.specs.Verdict.{Refuses, IsRefused}
 use Rattle.mk_check.specs.declared.refusal.CheckRefusal.{CheckRefusal}
 use Rattle.mk_check.specs.declared.refusal.CheckRefusal.TheVariants.{Operand, Tile, Output, Doubled, Memory}
@@ -32,26 +31,21 @@ pub undoubled-accepted : (code : Listing) (product refresh : Gadget) (cert : Cla
 undoubled-accepted code product refresh cert wired tiles outputs (Ok done) none = record { wired = wired; tiles = tiles; outputs = outputs; undoubled = none }
 undoubled-accepted code product refresh cert wired tiles outputs (Err e) none = tt
 
+-- and where one is, it refuses for that
+pub doubled-refused : (code : Listing) (product refresh : Gadget) (cert : Claimed) → Wired (shape_of code) cert.blocks → Tiles code product refresh cert.blocks
+    → Outputs code product refresh cert.blocks cert.claims
+    → (r : Result (Unit {0}) CheckRefusal) → IfErr r (λ e. IsDoubling (shape_of code) cert.blocks e) → IfErr r (λ e. Refuses code product refresh cert e)
+doubled-refused code product refresh cert wired tiles outputs (Ok done) first = tt
+doubled-refused code product refresh cert wired tiles outputs (Err (Doubled value k)) first = (wired, tiles, outputs, first)
+doubled-refused code product refresh cert wired tiles outputs (Err (Operand k)) first = absurd first
+doubled-refused code product refresh cert wired tiles outputs (Err (Tile k)) first = absurd first
+doubled-refused code product refresh cert wired tiles outputs (Err (Output k)) first = absurd first
+doubled-refused code product refresh cert wired tiles outputs (Err Memory) first = absurd first
+
 -- and with the product and the refresh that emitters append the code is private
 pub ok-private : (code : Listing) (cert : Claimed) → HasElementImages code → (r : Result (Unit {0}) CheckRefusal) → OnOk r (IsAccepted code cert) → OnOk r (Private code)
 ok-private code cert images (Ok done) accepted = accepted_built_in-private code cert images accepted
 ok-private code cert images (Err e) accepted = tt
-
--- the product and the refresh that emitters append may stand for the strong operators
-pub built_in-stand : (shape : Shape) (gadgets : Gadgets) (blocks : List Op) → gadgets ≡ built_in_gadgets (shape.order + 1)
-    → HaveTemplates shape gadgets.product gadgets.refresh blocks
-built_in-stand shape gadgets blocks is =
-    subst (λ (g : Gadgets). HaveTemplates shape g.product g.refresh blocks) (sym is) (built_in-templates shape blocks)
-
--- what is accepted by them is accepted by the rule
-pub accepted-built_in : (code : Listing) (gadgets : Gadgets) (cert : Claimed) (r : Result (Unit {0}) CheckRefusal) → gadgets ≡ built_in_gadgets (code.order + 1)
-    → OnOk r (Accepts code gadgets.product gadgets.refresh cert) → OnOk r (IsAccepted code cert)
-accepted-built_in code gadgets cert r is = subst (λ (g : Gadgets). OnOk r (Accepts code g.product g.refresh cert)) is
-
--- and what is refused by them is refused
-pub refused-built_in : (code : Listing) (gadgets : Gadgets) (cert : Claimed) (r : Result (Unit {0}) CheckRefusal) → gadgets ≡ built_in_gadgets (code.order + 1)
-    → IfErr r (λ e. (e ≡ Memory) ⊎ Refuses code gadgets.product gadgets.refresh cert e) → IfErr r (λ e. (e ≡ Memory) ⊎ IsRefused code cert e)
-refused-built_in code gadgets cert r is = subst (λ (g : Gadgets). IfErr r (λ e. (e ≡ Memory) ⊎ Refuses code g.product g.refresh cert e)) is
 
 module _ (code : Listing) (product refresh : Gadget) (cert : Claimed) (given : (op : Op) → IsGiven (shape_of code) product refresh op) where
   -- no tile is off where the tiles hold

@@ -1,6 +1,5 @@
--- The gadgets that templates are made of. What the calls of the crate promise needs none of it.
-use Rattle.std.specs.Prelude.{ℕ, ◌*◌}
-use Rattle.mk_code.specs.declared.TheConstants.{MOST_INSTRS}
+-- The gadgets that templates are made of.
+use Rattle.std.specs.Prelude.{ℕ}
 use Rattle.mk_ssa.specs.declared.Op.{Op}
 use Rattle.mk_gadget.specs.Gadget.{Gadget}
 use Rattle.mk_gadget.specs.Product.{product_gadget}
@@ -16,10 +15,6 @@ pub record Gadgets : Type 0 where
 -- the template of an operator by them
 abbrev pub template_of : Gadgets → Op → Gadget
 template_of gadgets op = template gadgets.shares gadgets.product gadgets.refresh op
-
--- more than the positions of a code within the limits, and than those of a gadget before its own instructions
-abbrev pub past_all_positions : ℕ
-past_all_positions = 2 * MOST_INSTRS
 
 -- the product and the refresh that emitters append, with n shares
 abbrev pub built_in_gadgets : ℕ → Gadgets

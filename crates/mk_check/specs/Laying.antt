@@ -1,14 +1,11 @@
--- The instructions and banks of blocks, by some gadgets. What the calls of the crate promise needs none of them.
+-- The instructions and banks of blocks, by some gadgets.
 use Rattle.std.specs.Prelude.{◌≡◌, ℕ, List, take}
 use Rattle.mk_code.specs.declared.instr.Instr.{Instr}
 use Rattle.mk_code.specs.Listing.{Listing}
 use Rattle.mk_ssa.specs.declared.Op.{Op}
 use Rattle.mk_rules.specs.Shape.{Shape, shape_of}
 use Rattle.mk_rules.specs.Tiles.{laid, input_banks, first_position, banks_of}
-use Rattle.mk_rules.specs.Faults.{FirstOffTile}
 use Rattle.mk_check.specs.Gadgets.{Gadgets}
-use Rattle.mk_check.specs.declared.refusal.CheckRefusal.{CheckRefusal}
-use Rattle.mk_check.specs.declared.refusal.CheckRefusal.TheVariants.{Operand, Tile, Output, Doubled, Memory}
 
 -- the instructions of the blocks, one after the other
 abbrev pub all_laid : Shape → Gadgets → List Op → List Instr
@@ -21,11 +18,3 @@ all_banks shape gadgets blocks = banks_of shape gadgets.product gadgets.refresh 
 -- the code's instructions are those of the blocks, as far as this number of them
 abbrev pub AgreesTo : Listing → Gadgets → List Op → ℕ → Type 0
 AgreesTo code gadgets blocks position = take position code.instrs ≡ take position (all_laid (shape_of code) gadgets blocks)
-
--- it names the first instruction that isn't that of the blocks
-abbrev pub IsOffTile : Listing → Gadgets → List Op → CheckRefusal → Type 0
-IsOffTile code gadgets blocks (Tile k) = FirstOffTile code gadgets.product gadgets.refresh blocks k
-IsOffTile code gadgets blocks (Operand k) = ⊥
-IsOffTile code gadgets blocks (Output k) = ⊥
-IsOffTile code gadgets blocks (Doubled value block) = ⊥
-IsOffTile code gadgets blocks Memory = ⊥

@@ -4,18 +4,18 @@
 ghost use Rattle.std.specs.Prelude.{◌≡◌, ◌⊎◌, ◌+◌, ◌*◌, ◌<◌, ◌≤◌, ◌^◌, ◌↔◌, List, ℕ, IsTrue, IsSomeAnd, IfErr, IfOk, IfSome, IfNone, OnOk, length, slice_get, slice_index, Some};
 ghost use Rattle.mk_ssa.specs.declared.Op.{Op};
 ghost use Rattle.mk_ssa.specs.declared.Operand.{Operand};
-ghost use Rattle.mk_rules.specs.Shape.{shape_of};
 ghost use Rattle.mk_rules.specs.Tiles.{value_number as number_by_operand};
 ghost use Rattle.mk_rules.specs.Products.{products_before};
 ghost use Rattle.mk_rules.specs.Uses.{shared_numbers as numbers_by_place};
 ghost use Rattle.mk_rules.specs.Wired.{Wired, IsSharedThere};
 ghost use Rattle.mk_rules.specs.Reaches.{Undoubled, links};
 ghost use Rattle.mk_rules.specs.Faults.{FirstDoubled};
+ghost use Rattle.mk_check.specs.Outlines.{outlined};
 ghost use Rattle.mk_check.specs.Passing.{IsBatch, IsNumbered, HasBoth, AreMarks, IsBrought, IsPassedOn, IsDoubling};
 
+use crate::outline::Outline;
 use crate::refusal::CheckRefusal;
 use mk_base::Memory;
-use mk_code::Code;
 use mk_rules::{first_pair, is_product, shared_numbers};
 use mk_ssa::{Op, Operand};
 use std::alloc::Global;
@@ -71,30 +71,30 @@ fn bring(marks: &mut [u64], number: Option<usize>, word: u64)
 
 /// Passes marks on to the operands of the block with this number: of a linear block those of its value, and of a
 /// product with a number in the batch those of its places.
-fn pass_on(code: &Code, marks: &mut [u64], block: usize, op: Op, product: Option<usize>)
-    requires first { IfSome (slice_get (numbers_by_place (shape_of code.now) op) 0)
+fn pass_on(outline: &Outline, marks: &mut [u64], block: usize, op: Op, product: Option<usize>)
+    requires first { IfSome (slice_get (numbers_by_place (outlined outline.now) op) 0)
         (λ v. v < length marks.old) }
-    requires second { IfSome (slice_get (numbers_by_place (shape_of code.now) op) 1)
+    requires second { IfSome (slice_get (numbers_by_place (outlined outline.now) op) 1)
         (λ v. v < length marks.old) }
-    requires there { code.now.secrets + code.now.publics + block < length marks.old }
+    requires there { outline.now.secrets + outline.now.publics + block < length marks.old }
     requires few { IfSome product (λ r. r < 32) }
     ensures count { length marks.new ≡ length marks.old }
-    ensures marks { IsPassedOn (shape_of code.now) op
-        (slice_index marks.old (code.now.secrets + code.now.publics + block)) product marks.old marks.new }
+    ensures marks { IsPassedOn (outlined outline.now) op
+        (slice_index marks.old (outline.now.secrets + outline.now.publics + block)) product marks.old marks.new }
 {
     match op {
         Op::Mul { .. } => {
             if let Some(product) = product {
-                let (first, second) = shared_numbers(code.secrets(), code.publics(), op);
+                let (first, second) = shared_numbers(outline.secrets, outline.publics, op);
                 bring(marks, first, 1 << (2 * product));
                 bring(marks, second, 1 << (2 * product + 1));
             }
         }
         Op::Refresh { .. } => {}
         _ => {
-            let own = marks[code.secrets() as usize + code.publics() as usize + block];
+            let own = marks[outline.inputs() + block];
             if own != 0 {
-                let (first, second) = shared_numbers(code.secrets(), code.publics(), op);
+                let (first, second) = shared_numbers(outline.secrets, outline.publics, op);
                 bring(marks, first, own);
                 bring(marks, second, own);
             }
@@ -128,11 +128,11 @@ fn product_number(blocks: &[Op], batch: Batch, block: usize, products: usize) ->
 }
 
 /// Marks in the word of each value the places of the batch's products that it reaches.
-fn mark_all(code: &Code, blocks: &[Op], batch: Batch, marks: &mut [u64])
-    requires wired { Wired (shape_of code.now) blocks.now }
+fn mark_all(outline: &Outline, blocks: &[Op], batch: Batch, marks: &mut [u64])
+    requires wired { Wired (outlined outline.now) blocks.now }
     requires batch { IsBatch blocks.now batch.from batch }
-    requires count { length marks.old ≡ code.now.secrets + code.now.publics + length blocks.now }
-    ensures { AreMarks (shape_of code.now) blocks.now batch 0 marks.new }
+    requires count { length marks.old ≡ outline.now.secrets + outline.now.publics + length blocks.now }
+    ensures { AreMarks (outlined outline.now) blocks.now batch 0 marks.new }
 {
     clear(marks);
     let mut products = batch.products;
@@ -140,7 +140,7 @@ fn mark_all(code: &Code, blocks: &[Op], batch: Batch, marks: &mut [u64])
     while block > 0 {
         block -= 1;
         let product = product_number(blocks, batch, block, products);
-        pass_on(code, marks, block, blocks[block], product);
+        pass_on(outline, marks, block, blocks[block], product);
         products = product.unwrap_or(products);
     }
 }
@@ -193,13 +193,13 @@ fn block_of(blocks: &[Op], batch: Batch, product: usize) -> usize
 }
 
 /// The value with this number.
-fn value_at(code: &Code, number: usize) -> Operand
-    requires { number < code.now.secrets + code.now.publics + 2 ^ 32 }
-    ensures { (blocks : List Op) (value : Operand) → IsSharedThere (shape_of code.now) blocks value
-        → number_by_operand (shape_of code.now) value ≡ number → result ≡ value }
+fn value_at(outline: &Outline, number: usize) -> Operand
+    requires { number < outline.now.secrets + outline.now.publics + 2 ^ 32 }
+    ensures { (blocks : List Op) (value : Operand) → IsSharedThere (outlined outline.now) blocks value
+        → number_by_operand (outlined outline.now) value ≡ number → result ≡ value }
 {
-    let secrets = code.secrets() as usize;
-    let inputs = secrets + code.publics() as usize;
+    let secrets = outline.secrets as usize;
+    let inputs = secrets + outline.publics as usize;
     if number < secrets {
         Operand::Secret(number as u32)
     } else if number < inputs {
@@ -211,20 +211,20 @@ fn value_at(code: &Code, number: usize) -> Operand
 
 /// The first product of which a value reaches both places, and the first such value, by words of marks, one for
 /// each value. It takes no memory. Its time is that of all values for each 32 products, whatever leads where.
-fn first_doubled(code: &Code, blocks: &[Op], marks: &mut [u64]) -> Option<(Operand, u32)>
-    requires wired { Wired (shape_of code.now) blocks.now }
+fn first_doubled(outline: &Outline, blocks: &[Op], marks: &mut [u64]) -> Option<(Operand, u32)>
+    requires wired { Wired (outlined outline.now) blocks.now }
     requires small { length blocks.now < 2 ^ 32 }
-    requires count { length marks.old ≡ code.now.secrets + code.now.publics + length blocks.now }
-    ensures none { IfNone result (Undoubled (code.now.secrets + code.now.publics) (links (shape_of code.now) blocks.now)) }
-    ensures first { IfSome result (λ first. FirstDoubled (shape_of code.now) blocks.now first.0 first.1) }
+    requires count { length marks.old ≡ outline.now.secrets + outline.now.publics + length blocks.now }
+    ensures none { IfNone result (Undoubled (outline.now.secrets + outline.now.publics) (links (outlined outline.now) blocks.now)) }
+    ensures first { IfSome result (λ first. FirstDoubled (outlined outline.now) blocks.now first.0 first.1) }
 {
     let mut from = 0;
     while from < blocks.len() {
         let batch = next_batch(blocks, from);
-        mark_all(code, blocks, batch, marks);
+        mark_all(outline, blocks, batch, marks);
         if let Some(clash) = first_clash(marks) {
             let block = block_of(blocks, batch, clash.product) as u32;
-            return Some((value_at(code, clash.value), block));
+            return Some((value_at(outline, clash.value), block));
         }
         from = batch.end;
     }
@@ -232,22 +232,25 @@ fn first_doubled(code: &Code, blocks: &[Op], marks: &mut [u64]) -> Option<(Opera
 }
 
 /// A word without marks for each of so many values.
-fn no_marks(alloc: Global, count: usize) -> Result<Vec<u64>, Memory>
+pub(crate) fn no_marks(alloc: Global, count: usize) -> Result<Vec<u64>, Memory>
     ensures { IfOk result (λ marks. length marks.items ≡ count) }
 {
     Ok(vec![in alloc; 0; count]?)
 }
 
 /// Answers `Doubled` for the first product of which a value reaches both places, with the first such value.
-pub(crate) fn undoubled(alloc: Global, code: &Code, blocks: &[Op]) -> Result<(), CheckRefusal>
-    requires wired { Wired (shape_of code.now) blocks.now }
+pub(crate) fn undoubled(
+    outline: &Outline,
+    blocks: &[Op],
+    marks: &mut [u64],
+) -> Result<(), CheckRefusal>
+    requires wired { Wired (outlined outline.now) blocks.now }
     requires small { length blocks.now < 2 ^ 32 }
-    ensures ok { OnOk result (Undoubled (code.now.secrets + code.now.publics) (links (shape_of code.now) blocks.now)) }
-    ensures doubled { IfErr result (λ e. (e ≡ CheckRefusal.Memory) ⊎ IsDoubling (shape_of code.now) blocks.now e) }
+    requires count { length marks.old ≡ outline.now.secrets + outline.now.publics + length blocks.now }
+    ensures ok { OnOk result (Undoubled (outline.now.secrets + outline.now.publics) (links (outlined outline.now) blocks.now)) }
+    ensures doubled { IfErr result (λ e. IsDoubling (outlined outline.now) blocks.now e) }
 {
-    let count = code.secrets() as usize + code.publics() as usize + blocks.len();
-    let mut marks = no_marks(alloc, count)?;
-    match first_doubled(code, blocks, marks.as_mut_slice()) {
+    match first_doubled(outline, blocks, marks) {
         Some((value, block)) => Err(CheckRefusal::Doubled { value, block }),
         None => Ok(()),
     }

@@ -1,58 +1,31 @@
 //! The checker: whether a code is made of the blocks of its certificate, with the claimed outputs, and no
-//! value reaches both places of a product.
+//! value reaches both places of a product. A `Checker` is given the code while it comes, instruction by
+//! instruction and then output by output; `check` gives it a whole code.
 #![tactic(auto)]
 
-ghost use Rattle.std.specs.Prelude.{◌≡◌, ◌+◌, ◌⊎◌, OnOk, IfErr};
+ghost use Rattle.std.specs.Prelude.{◌≡◌, ◌⊎◌, OnOk, IfErr};
 ghost use Rattle.mk_code.specs.Listing.{Listing};
 ghost use Rattle.mk_code.specs.Private.{Private};
-ghost use Rattle.mk_rules.specs.Shape.{shape_of};
 ghost use Rattle.mk_rules.specs.Claimed.{Claimed};
-ghost use Rattle.mk_rules.specs.Accepts.{Accepts, IsAccepted};
-ghost use Rattle.mk_rules.specs.Privacy.{HaveTemplates};
-ghost use Rattle.mk_check.specs.Verdict.{Refuses, IsRefused};
+ghost use Rattle.mk_rules.specs.Accepts.{IsAccepted};
+ghost use Rattle.mk_check.specs.Verdict.{IsRefused};
 
+mod checker;
 mod doubled;
+mod giving;
+mod outline;
 mod outputs;
+mod plan;
 mod refusal;
 mod templates;
-mod tiles;
 mod wired;
 
-use doubled::undoubled;
+pub use checker::Checker;
+use giving::{checker_of, give_instrs, give_outs};
 use mk_code::Code;
 use mk_rules::Cert;
-use outputs::first_wrong_output;
 pub use refusal::CheckRefusal;
 use std::alloc::Global;
-use templates::{Templates, at_order};
-use tiles::lay;
-use wired::first_unwired;
-
-/// What the checker says of a code and its certificate by these templates.
-fn verdict(
-    alloc: Global,
-    code: &Code,
-    templates: &Templates,
-    cert: &Cert,
-) -> Result<(), CheckRefusal>
-    requires shares { templates.now.shares ≡ code.now.order + 1 }
-    requires templates { HaveTemplates (shape_of code.now) templates.now.product templates.now.refresh cert.now.blocks }
-    ensures accepted { OnOk result (Accepts code.now templates.now.product templates.now.refresh cert.now) }
-    ensures refused { IfErr result (λ e. (e ≡ CheckRefusal.Memory)
-        ⊎ Refuses code.now templates.now.product templates.now.refresh cert.now e) }
-{
-    code.law();
-    let blocks = cert.blocks().as_slice();
-    if let Some(block) = first_unwired(code, blocks) {
-        return Err(CheckRefusal::Operand { block });
-    }
-    let banks = lay(alloc, code, templates, blocks)?;
-    let claims = cert.claims().as_slice();
-    if let Some(index) = first_wrong_output(code, blocks, banks.as_slice(), claims) {
-        return Err(CheckRefusal::Output { index });
-    }
-    undoubled(alloc, code, blocks)
-}
 
 /// Whether the rule accepts the code with its certificate, which makes the code private: else the first
 /// part that doesn't hold, of operands, tiles, outputs and doubled values in this order, with its first
@@ -63,8 +36,10 @@ pub fn check(alloc: Global, code: &Code, cert: &Cert) -> Result<(), CheckRefusal
     ensures refused { IfErr result (λ e. (e ≡ CheckRefusal.Memory) ⊎ IsRefused code.now cert.now e) }
 {
     code.law();
-    let templates = at_order(alloc, code.order())?;
-    verdict(alloc, code, &templates, cert)
+    let mut checker = checker_of(alloc, code, cert)?;
+    give_instrs(&mut checker, code.instrs().as_slice());
+    give_outs(&mut checker, code);
+    checker.finish()
 }
 
 /// The law of verdicts: what the rule accepts has no cause to be refused, and there is at most one cause to

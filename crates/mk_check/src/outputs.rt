@@ -1,78 +1,43 @@
-//! Whether a code's outputs are the claimed values.
+//! Whether an output is the claimed value.
 
-ghost use Rattle.std.specs.Prelude.{◌≡◌, ◌+◌, ◌*◌, ◌<◌, ◌^◌, ◌↔◌, [], ℕ, IsTrue, MatchOption, length, slice_index_or};
-ghost use Rattle.mk_rules.specs.Accepts.{AreOutputs};
-ghost use Rattle.mk_rules.specs.Faults.{output_positions, IsClaimed, FirstWrongOutput};
+ghost use Rattle.std.specs.Prelude.{◌≡◌, ◌↔◌, ◌+◌, ◌<◌, [], IsTrue, IsSomeAnd, length, slice_get, slice_index_or};
+ghost use Rattle.mk_rules.specs.Tiles.{value_number as number_by_operand};
+ghost use Rattle.mk_rules.specs.Wired.{IsSharedThere, Wired};
+ghost use Rattle.mk_check.specs.Laying.{all_banks};
+ghost use Rattle.mk_check.specs.Outlines.{outlined};
+ghost use Rattle.mk_check.specs.Plans.{IsPlan};
 
-use crate::tiles::number_of;
+use crate::plan::Plan;
 use crate::wired::is_shared_there;
-use mk_base::Items;
-use mk_code::Code;
-use mk_ssa::{Op, Operand};
 
-/// Whether these are the positions of a value's shares.
-fn is_bank(banks: &[Items<u32>], number: usize, positions: &[u32]) -> bool
-    ensures { IsTrue result ↔ (slice_index_or banks.now number [] ≡ positions.now) }
+/// Whether these are the positions of the shares of the value with this number.
+fn is_bank(plan: &Plan, number: usize, positions: &[u32]) -> bool
+    requires plan { IsPlan plan.now }
+    requires wired { Wired (outlined plan.now.outline) plan.now.cert.blocks }
+    requires count { length positions.now ≡ plan.now.outline.order + 1 }
+    ensures { IsTrue result ↔ (slice_index_or (all_banks (outlined plan.now.outline) plan.now.templates plan.now.cert.blocks) number [] ≡ positions.now) }
 {
-    match banks.get(number) {
-        Some(bank) => bank.as_slice() == positions,
-        None => positions.is_empty(),
-    }
-}
-
-/// The positions of the shares of output `k`.
-fn output(code: &Code, k: usize) -> &[u32]
-    requires { k * (code.now.order + 1) < length code.now.outs }
-    ensures { result.now ≡ output_positions code.now k }
-{
-    code.law();
-    let shares = usize::from(code.order()) + 1;
-    let start = k * shares;
-    &code.outs().as_slice()[start..start + shares]
-}
-
-/// Whether there is a claim `k`, of a shared value that is there, and an output `k`, which is its bank.
-fn is_claimed(
-    code: &Code,
-    blocks: &[Op],
-    banks: &[Items<u32>],
-    claims: &[Operand],
-    k: usize,
-) -> bool
-    requires small { k < 2 ^ 32 }
-    ensures { IsTrue result ↔ IsClaimed code.now banks.now blocks.now claims.now k }
-{
-    code.law();
-    let shares = usize::from(code.order()) + 1;
-    match claims.get(k) {
-        Some(value) if k * shares < code.outs().len() => {
-            is_shared_there(code, blocks, *value)
-                && is_bank(banks, number_of(code, *value), output(code, k))
-        }
-        _ => false,
-    }
-}
-
-/// The first output that isn't claimed or claim that isn't an output, if there is one.
-pub(crate) fn first_wrong_output(
-    code: &Code,
-    blocks: &[Op],
-    banks: &[Items<u32>],
-    claims: &[Operand],
-) -> Option<u32>
-    requires small { length claims.now < 2 ^ 32 }
-    ensures { MatchOption result (AreOutputs code.now banks.now blocks.now claims.now)
-        (λ k. FirstWrongOutput code.now banks.now blocks.now claims.now k) }
-{
-    for k in 0..claims.len() {
-        if !is_claimed(code, blocks, banks, claims, k) {
-            return Some(k as u32);
+    for k in 0..positions.len() {
+        if plan.share(number, k as u32) != Some(u64::from(positions[k])) {
+            return false;
         }
     }
-    let shares = usize::from(code.order()) + 1;
-    if claims.len() * shares < code.outs().len() {
-        Some(claims.len() as u32)
-    } else {
-        None
+    plan.share(number, positions.len() as u32).is_none()
+}
+
+/// Whether there is a claim `k`, of a shared value that is there, and these are the positions of its shares.
+pub(crate) fn is_claimed(plan: &Plan, k: u32, positions: &[u32]) -> bool
+    requires plan { IsPlan plan.now }
+    requires wired { Wired (outlined plan.now.outline) plan.now.cert.blocks }
+    requires count { length positions.now ≡ plan.now.outline.order + 1 }
+    ensures { IsTrue result ↔ IsSomeAnd (slice_get plan.now.cert.claims k) (λ v. IsSharedThere (outlined plan.now.outline) plan.now.cert.blocks v
+        × (slice_index_or (all_banks (outlined plan.now.outline) plan.now.templates plan.now.cert.blocks) (number_by_operand (outlined plan.now.outline) v) [] ≡ positions.now)) }
+{
+    match plan.cert.claims().as_slice().get(k as usize) {
+        Some(value) => {
+            is_shared_there(&plan.outline, plan.cert.blocks().as_slice(), *value)
+                && is_bank(plan, plan.outline.number_of(*value), positions)
+        }
+        None => false,
     }
 }

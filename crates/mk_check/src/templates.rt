@@ -2,6 +2,7 @@
 
 ghost use Rattle.std.specs.Prelude.{◌≡◌, ◌≢◌, ◌≤◌, ◌<◌, ◌+◌, ◌*◌, ℕ, Some, IfOk, length, slice_get};
 ghost use Rattle.mk_base.specs.declared.TheConstants.{TOP_ORDER};
+ghost use Rattle.mk_code.specs.declared.TheConstants.{MOST_INSTRS};
 ghost use Rattle.mk_ssa.specs.Kinds.{Strong, kind, shared_operands, public_operands};
 ghost use Rattle.mk_gadget.specs.Product.{product_gadget};
 ghost use Rattle.mk_gadget.specs.Refresh.{refresh_gadget};
@@ -66,6 +67,18 @@ impl Templates {
         }
     }
 
+    /// How many instructions the template of an operator has.
+    pub(crate) fn len(&self, op: &Op) -> u32
+        ensures count { result ≡ length (template_of self.now op.now).instrs }
+        ensures small { result ≤ MOST_INSTRS }
+    {
+        match op {
+            Op::Mul { .. } => instrs_len(&self.product),
+            Op::Refresh { .. } => instrs_len(&self.refresh),
+            _ => self.rows(op),
+        }
+    }
+
     /// How many instructions the template of a public or linear operator has, and its out bank positions.
     fn rows(&self, op: &Op) -> u32
         ensures rows { (kind op.now ≢ Strong) → (result ≡ length (template_of self.now op.now).instrs)
@@ -76,8 +89,17 @@ impl Templates {
     }
 }
 
+/// How many instructions a code has.
+fn instrs_len(code: &Code) -> u32
+    ensures count { result ≡ length code.now.instrs }
+    ensures small { result ≤ MOST_INSTRS }
+{
+    code.law();
+    code.instrs().len() as u32
+}
+
 /// How many positions the operands of an operator have.
-fn operands(op: &Op, shares: u32) -> u32
+pub(crate) fn operands(op: &Op, shares: u32) -> u32
     requires { shares ≤ 16 }
     ensures { result ≡ shares * length (shared_operands op.now) + length (public_operands op.now) }
 {

@@ -1,19 +1,19 @@
 //! Whether the operands of blocks are there, and of their kind.
 
 ghost use Rattle.std.specs.Prelude.{◌≡◌, ◌<◌, ◌^◌, ◌↔◌, ℕ, IsTrue, MatchOption, length};
-ghost use Rattle.mk_rules.specs.Shape.{shape_of};
 ghost use Rattle.mk_rules.specs.Wired.{IsSharedThere, IsPublicThere, IsWired, Wired};
 ghost use Rattle.mk_rules.specs.Faults.{FirstUnwired};
+ghost use Rattle.mk_check.specs.Outlines.{outlined};
 
-use mk_code::Code;
+use crate::outline::Outline;
 use mk_ssa::{Op, Operand};
 
 /// Whether the operand is a secret that is there or a shared block among those before.
-pub(crate) fn is_shared_there(code: &Code, before: &[Op], value: Operand) -> bool
-    ensures { IsTrue result ↔ IsSharedThere (shape_of code.now) before.now value }
+pub(crate) fn is_shared_there(outline: &Outline, before: &[Op], value: Operand) -> bool
+    ensures { IsTrue result ↔ IsSharedThere (outlined outline.now) before.now value }
 {
     match value {
-        Operand::Secret(k) => k < code.secrets(),
+        Operand::Secret(k) => k < outline.secrets,
         Operand::Public(_) => false,
         Operand::Block(k) => match before.get(k as usize) {
             Some(op) => !op.is_public(),
@@ -23,12 +23,12 @@ pub(crate) fn is_shared_there(code: &Code, before: &[Op], value: Operand) -> boo
 }
 
 /// Whether the operand is a public input that is there or a public block among those before.
-fn is_public_there(code: &Code, before: &[Op], value: Operand) -> bool
-    ensures { IsTrue result ↔ IsPublicThere (shape_of code.now) before.now value }
+fn is_public_there(outline: &Outline, before: &[Op], value: Operand) -> bool
+    ensures { IsTrue result ↔ IsPublicThere (outlined outline.now) before.now value }
 {
     match value {
         Operand::Secret(_) => false,
-        Operand::Public(k) => k < code.publics(),
+        Operand::Public(k) => k < outline.publics,
         Operand::Block(k) => match before.get(k as usize) {
             Some(op) => op.is_public(),
             None => false,
@@ -38,14 +38,14 @@ fn is_public_there(code: &Code, before: &[Op], value: Operand) -> bool
 
 /// Whether each operand of the operator is there and of its kind among the blocks before, its map is
 /// one of the code's and its constant is an element of the field.
-fn is_wired(code: &Code, before: &[Op], op: &Op) -> bool
-    ensures { IsTrue result ↔ IsWired (shape_of code.now) before.now op.now }
+fn is_wired(outline: &Outline, before: &[Op], op: &Op) -> bool
+    ensures { IsTrue result ↔ IsWired (outlined outline.now) before.now op.now }
 {
-    let is_shared = |value| is_shared_there(code, before, value);
-    let is_public = |value| is_public_there(code, before, value);
-    let has_map = |map| (map as usize) < code.maps().len();
+    let is_shared = |value| is_shared_there(outline, before, value);
+    let is_public = |value| is_public_there(outline, before, value);
+    let has_map = |map| map < outline.maps;
     match *op {
-        Op::Const { value } => code.field().contains(value),
+        Op::Const { value } => outline.field.contains(value),
         Op::PubAdd { left, right } | Op::PubMul { left, right } => {
             is_public(left) && is_public(right)
         }
@@ -61,13 +61,13 @@ fn is_wired(code: &Code, before: &[Op], op: &Op) -> bool
 }
 
 /// The first block that isn't wired, if there is one.
-pub(crate) fn first_unwired(code: &Code, blocks: &[Op]) -> Option<u32>
+pub(crate) fn first_unwired(outline: &Outline, blocks: &[Op]) -> Option<u32>
     requires { length blocks.now < 2 ^ 32 }
-    ensures { MatchOption result (Wired (shape_of code.now) blocks.now)
-        (λ k. FirstUnwired (shape_of code.now) blocks.now k) }
+    ensures { MatchOption result (Wired (outlined outline.now) blocks.now)
+        (λ k. FirstUnwired (outlined outline.now) blocks.now k) }
 {
     for (k, op) in blocks.iter().enumerate() {
-        if !is_wired(code, &blocks[..k], op) {
+        if !is_wired(outline, &blocks[..k], op) {
             return Some(k as u32);
         }
     }

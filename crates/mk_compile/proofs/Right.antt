@@ -25,7 +25,7 @@ use Rattle.mk_rules.specs.Shape.{Shape}
 use Rattle.mk_rules.specs.Tiles.{value_number, reads, laid, laid_banks}
 use Rattle.mk_rules.specs.Wired.{IsSharedThere, IsPublicThere, IsWired, AllWired}
 use Rattle.mk_rules.proofs.Values.{placed-elements}
-use Rattle.mk_rules.proofs.Standing.{bank, places_of, IsBlock, AreBanks, AreBanks-next, bank-before, bank-next}
+use Rattle.mk_rules.proofs.Standing.{bank, bank_length, IsBlock, AreBanks, AreBanks-next, bank-before, bank-next}
 use Rattle.mk_rules.proofs.Blocks.{Block}
 use Rattle.mk_rules.proofs.Accepted.{known_of, block_of, block-good, reads-same, shared-there, public-there}
 use Rattle.mk_rules.proofs.BuiltIn.{built_in-given}
@@ -194,8 +194,8 @@ module _ (shape : Shape) where
               subst (λ (w : Operand). sum_at shape (banks ++ outs ∷ []) after w ≡ operand_value publics secrets (values ++ x ∷ []) w) (sym last)
               (ap (λ (positions : List ℕ). shared_at positions after) (bank-next banks outs (inputs + length before) banked.count)
               ∙ template-right shape banks base before
-              (λ w here. banked.long (value_number shape w) (shared w here).0 ∙ ap (places_of n) (shared w here).1)
-              (λ w here. banked.long (value_number shape w) (public w here).0 ∙ ap (places_of n) (public w here).1)
+              (λ w here. banked.long (value_number shape w) (shared w here).0 ∙ ap (bank_length n) (shared w here).1)
+              (λ w here. banked.long (value_number shape w) (public w here).0 ∙ ap (bank_length n) (public w here).1)
               (λ w here. banked.below (value_number shape w) (shared w here).0)
               (λ w here. banked.below (value_number shape w) (public w here).0)
               op wired tape entries elements.count elements.below

@@ -6,6 +6,8 @@ use Rattle.std.proofs.lemmas.List.Sums.{sum_by-append, sum_by-cons}
 use Rattle.std.proofs.lemmas.Option.{same_Some}
 use Rattle.std.proofs.lemmas.Nat.{mul-le}
 use Rattle.std.proofs.Math.Nat.{mul-le-mul_right}
+use Rattle.mk_unroll.specs.declared.TheConstants.{MOST_SIZE}
+use Rattle.mk_types.specs.declared.TheConstants.{MOST_WORK, MOST_OPERATIONS}
 use Rattle.mk_field.specs.declared.field.FieldId.{FieldId}
 use Rattle.mk_field.specs.declared.field.FieldId.TheVariants.{Gf2, Gf256}
 use Rattle.mk_field.specs.Field.{size}
@@ -309,9 +311,9 @@ size-few Gf256 = omega arith
 -- how many simplified values there are of each kind, where the values before are few
 pub record AreFew (values : List Op) (n : ℕ) : Type 0 where
   pub few_constants : constants values ≤ 256
-  pub few_lifts : lifts values ≤ 65537
-  pub few_made : made values ≤ 16384
-  pub few_size : made values * (n * n) ≤ 1000000
+  pub few_lifts : lifts values ≤ MOST_WORK + 1
+  pub few_made : made values ≤ MOST_OPERATIONS
+  pub few_size : made values * (n * n) ≤ MOST_SIZE
 
 -- where simplifying adds no value of any kind and leaves few constants, values that were few stay few
 pub simplified-few : (s r : Values) (order : ℕ) → HasFewValues s order

@@ -22,11 +22,6 @@ pub(crate) struct Inputs {
     pub(crate) publics: u32,
 }
 
-/// There are `N` positions. It does nothing.
-fn count_law<const N: usize>(positions: &[u32; N])
-    ensures { length positions.now ≡ N }
-{}
-
 /// The positions of the shares of a shared value, among inputs and the values of blocks.
 pub(crate) fn shared_bank<const N: usize>(
     inputs: Inputs,
@@ -48,7 +43,7 @@ pub(crate) fn shared_bank<const N: usize>(
             Position::Public(_) => unreachable!(),
         },
     };
-    count_law(&bank.regs);
+    bank.law();
     bank
 }
 

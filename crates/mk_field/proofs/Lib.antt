@@ -4,3 +4,4 @@ pub mod Bytes
 pub mod Exponents
 pub mod Tables
 pub mod Product
+pub mod Raised

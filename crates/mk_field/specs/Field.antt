@@ -1,6 +1,6 @@
 -- The two fields, after FIPS 197 section 4: elements are numbers below the size, and the sum in both
 -- is exclusive or, `bit_xor`.
-use Rattle.std.specs.Prelude.{◌≡◌, ℕ, zero, suc, ◌*◌, ◌^◌, ◌/◌, ◌%◌, Bool, true, false, if◌then◌else◌, nat_lt, nat_eq, List, [], bit_and, bit_xor, slice_index, slice_index_or, refl}
+use Rattle.std.specs.Prelude.{◌≡◌, ℕ, zero, suc, ◌*◌, ◌^◌, ◌/◌, ◌%◌, Bool, true, false, MatchBool, if◌then◌else◌, nat_lt, nat_eq, List, [], bit_and, bit_xor, slice_index, slice_index_or, refl}
 use Rattle.mk_field.specs.declared.field.FieldId.{FieldId}
 use Rattle.mk_field.specs.declared.field.FieldId.TheVariants.{Gf2, Gf256}
 use Rattle.mk_field.specs.declared.map.AddMap.{AddMap}
@@ -41,6 +41,11 @@ product Gf256 a b = byte_product a b
 abbrev pub square : FieldId → ℕ → ℕ
 square field a = product field a a
 
+-- an element raised to an exponent
+unfoldable pub raised : FieldId → ℕ → ℕ → ℕ
+raised field a zero = 1
+raised field a (suc e) = product field a (raised field a e)
+
 -- the image of a byte under an additive map: the sum of the images of its set bits
 abbrev pub image : AddMap → ℕ → ℕ
 image m a = sum_bits 8 (λ i. slice_index m.images i) a
@@ -50,14 +55,13 @@ abbrev pub image_by : List AddMap → ℕ → ℕ → ℕ
 image_by maps m a = image (slice_index_or maps m (record { images = [] })) a
 
 -- whether there are additive maps on the field's elements: on bytes alone
-unfoldable pub has_maps : FieldId → Bool
+abbrev pub has_maps : FieldId → Bool
 has_maps Gf2 = false
 has_maps Gf256 = true
 
 -- there are none of these maps but on bytes
 abbrev pub HasMapsOnlyInBytes : FieldId → List AddMap → Type 0
-HasMapsOnlyInBytes Gf2 maps = maps ≡ []
-HasMapsOnlyInBytes Gf256 maps = Unit {0}
+HasMapsOnlyInBytes field maps = MatchBool (has_maps field) (Unit {0}) (maps ≡ [])
 
 -- {57} times {83} is {c1}, the example of FIPS 197 section 4.2
 pub product-57-83 : product Gf256 0x57 0x83 ≡ 0xc1

@@ -31,7 +31,6 @@ impl FieldId {
     }
 
     /// Whether there are additive maps on its elements: on bytes alone.
-    #[tactic(auto, unfolding(crate::specs::Field::has_maps))]
     pub fn has_maps(self) -> bool
         ensures { result ≡ has_maps self }
     {

@@ -107,14 +107,6 @@ left_out-other f [] x out held = absurd (omega (arith, held.1))
 left_out-other f (y ∷ ys) x out (zero, inside, here) = λ e. out.0 (here ∙ e)
 left_out-other f (y ∷ ys) x out (suc k, inside, here) = left_out-other f ys x out.1 (k, omega (arith, inside), here)
 
--- a function's values at the numbers of a list are in the list of them
-pub Contains-map : (f : ℕ → ℕ) (xs : List ℕ) (x : ℕ) → Contains xs x → Contains (map f xs) (f x)
-Contains-map f [] x held = absurd (omega (arith, held.1))
-Contains-map f (y ∷ ys) x (zero, inside, here) = (0, omega arith, ap f here)
-Contains-map f (y ∷ ys) x (suc k, inside, here) =
-    let rest : Contains (map f ys) (f x) = Contains-map f ys x (k, omega (arith, inside), here) in
-    (suc rest.0, omega (arith, rest.1), rest.2)
-
 -- a number of the list that passes the test
 pub any-held : (test : ℕ → Bool) (xs : List ℕ) (x : ℕ) → Contains xs x → test x ≡ true → list_any test xs ≡ true
 any-held test xs x held passes = list_any_at test xs held.0 x held.1 (ap test held.2 ∙ passes)

@@ -6,6 +6,7 @@ use Rattle.std.specs.List.{Contains, list_any}
 use Rattle.std.proofs.lemmas.Bool.{cases_Bool, cond-true, cond-false, eqb-true, true≢false, false_from_ne_true}
 use Rattle.std.proofs.lemmas.List.{length-append, length-map}
 use Rattle.std.proofs.lemmas.List.Elements.{Contains-append_left, Contains-append_right}
+use Rattle.mk_base.proofs.Lists.{Contains-map}
 use Rattle.mk_field.specs.declared.field.FieldId.{FieldId}
 use Rattle.mk_field.specs.declared.map.AddMap.{AddMap}
 use Rattle.mk_field.specs.Field.{size, product}
@@ -22,7 +23,7 @@ use Rattle.mk_gadget.specs.Steady.{block_view, IsStrong}
 use Rattle.mk_gadget.proofs.Steady.{below-held}
 use Rattle.mk_gadget.proofs.ProductRun.{ProductLabel, Cell, Cross, Half, Sum, product_labels}
 use Rattle.mk_gadget.proofs.ProductRows.{IsProductLabel, product-labels_each, length-product_labels, product-instr, product-out, randoms-product}
-use Rattle.mk_gadget.proofs.Coupling.{coupled, depends-unpublic, view-same, out-at, for_pairs, for_pairs-below, for_pairs-added, left_out-other, Contains-map, any-held, any-found}
+use Rattle.mk_gadget.proofs.Coupling.{coupled, depends-unpublic, view-same, out-at, for_pairs, for_pairs-below, for_pairs-added, left_out-other, any-held, any-found}
 use Rattle.mk_gadget.proofs.Mended.{element-at}
 use Rattle.mk_gadget.proofs.Moves.{Plan, IsPlan, IsUnmended, move, half-kept, move-element}
 use Rattle.mk_gadget.proofs.ProductKept.{IsKept, Runs, AreMoved, gap-none, value-kept, output-stays}

@@ -6,6 +6,7 @@ use Rattle.std.specs.List.{Contains}
 use Rattle.std.proofs.lemmas.Bool.{cases_eq, cases_order, eq-eqb, ne_eqb}
 use Rattle.std.proofs.lemmas.List.{length-append, length-map}
 use Rattle.std.proofs.lemmas.List.Elements.{Contains-append_left, Contains-append_right}
+use Rattle.mk_base.proofs.Lists.{Contains-map}
 use Rattle.mk_field.specs.declared.field.FieldId.{FieldId}
 use Rattle.mk_field.specs.declared.map.AddMap.{AddMap}
 use Rattle.mk_field.specs.Field.{size}
@@ -21,7 +22,7 @@ use Rattle.mk_gadget.specs.Steady.{block_view, IsStrong}
 use Rattle.mk_gadget.proofs.ShareSums.{share_sum, share_sum-none}
 use Rattle.mk_gadget.proofs.Steady.{below-held}
 use Rattle.mk_gadget.proofs.RefreshRun.{RefreshLabel, Random, Sum, refresh_labels, random_of, refresh_value, random_of-comm, random_of-ordered, IsRefreshLabel, refresh-labels_each, length-refresh_labels, refresh-instr, randoms-refresh, refresh-out}
-use Rattle.mk_gadget.proofs.Coupling.{coupled, depends-unpublic, view-same, out-at, for_pairs, for_pairs-below, for_pairs-added, left_out-other, Contains-map}
+use Rattle.mk_gadget.proofs.Coupling.{coupled, depends-unpublic, view-same, out-at, for_pairs, for_pairs-below, for_pairs-added, left_out-other}
 use Rattle.mk_gadget.proofs.Mended.{share_sum-congruent, share_sum-sums, with_column, with_column-here, with_column-other, share_sum-column, element-at}
 
 -- the share that an instruction belongs to: the first of a pair, or the one that is summed

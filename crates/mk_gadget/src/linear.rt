@@ -15,11 +15,6 @@ use mk_code::{CodeBuilder, Instr};
 use mk_field::Field;
 use mk_share::Bank;
 
-/// There are `N` positions. It does nothing.
-pub(crate) fn count_law<const N: usize>(positions: &[u32; N])
-    ensures { length positions.now ≡ N }
-{}
-
 /// Appends the sum of two shared values, and answers its bank. After `Memory` the code is as before.
 pub fn emit_add<F: Field, const N: usize>(
     builder: &mut CodeBuilder<F>,
@@ -36,8 +31,8 @@ pub fn emit_add<F: Field, const N: usize>(
     ensures steady { (maps : List AddMap) → IsSteady F.ID maps N 2 0 (addition N) }
     ensures memory { OnErr result (builder.new ≡ record builder.old { spare = builder.new.spare }) }
 {
-    count_law(&x.regs);
-    count_law(&y.regs);
+    x.law();
+    y.law();
     builder.reserve(N as u32)?;
     let mut regs = [0; N];
     for share in 0..N {
@@ -66,7 +61,7 @@ pub fn emit_add_public<F: Field, const N: usize>(
     ensures steady { (maps : List AddMap) → IsSteady F.ID maps N 1 1 (public_addition N) }
     ensures memory { OnErr result (builder.new ≡ record builder.old { spare = builder.new.spare }) }
 {
-    count_law(&x.regs);
+    x.law();
     builder.reserve(N as u32)?;
     let mut regs = [0; N];
     regs[0] = builder.push(Instr::Add {
@@ -98,7 +93,7 @@ pub fn emit_scale_public<F: Field, const N: usize>(
     ensures steady { (maps : List AddMap) → IsSteady F.ID maps N 1 1 (scaling N) }
     ensures memory { OnErr result (builder.new ≡ record builder.old { spare = builder.new.spare }) }
 {
-    count_law(&x.regs);
+    x.law();
     builder.reserve(N as u32)?;
     let mut regs = [0; N];
     for share in 0..N {
@@ -124,7 +119,7 @@ pub fn emit_sq<F: Field, const N: usize>(
     ensures steady { (maps : List AddMap) → IsSteady F.ID maps N 1 0 (squaring N) }
     ensures memory { OnErr result (builder.new ≡ record builder.old { spare = builder.new.spare }) }
 {
-    count_law(&x.regs);
+    x.law();
     builder.reserve(N as u32)?;
     let mut regs = [0; N];
     for share in 0..N {
@@ -152,7 +147,7 @@ pub fn emit_map<F: Field, const N: usize>(
     ensures steady { (maps : List AddMap) → IsSteady F.ID maps N 1 0 (mapping N map) }
     ensures memory { OnErr result (builder.new ≡ record builder.old { spare = builder.new.spare }) }
 {
-    count_law(&x.regs);
+    x.law();
     builder.reserve(N as u32)?;
     let mut regs = [0; N];
     for share in 0..N {

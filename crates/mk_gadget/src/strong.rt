@@ -13,7 +13,6 @@ ghost use Rattle.mk_gadget.specs.Product as positions;
 ghost use Rattle.mk_gadget.specs.Refresh.{refresh_gadget};
 ghost use Rattle.mk_gadget.specs.Steady.{IsStrong};
 
-use crate::linear::count_law;
 use mk_base::Memory;
 use mk_code::{CodeBuilder, Instr};
 use mk_field::Field;
@@ -74,7 +73,7 @@ pub fn emit_refresh<F: Field, const N: usize>(
     ensures strong { (maps : List AddMap) → IsStrong F.ID maps N 1 0 (refresh_gadget N) }
     ensures memory { OnErr result (builder.new ≡ record builder.old { spare = builder.new.spare }) }
 {
-    count_law(&x.regs);
+    x.law();
     builder.reserve(3 * pairs_before::<N>(N) as u32)?;
     let mut regs = x.regs;
     // The partial sums of a row: one random element for each later share, added to both.
@@ -115,8 +114,8 @@ pub fn emit_mul<F: Field, const N: usize>(
     ensures strong { (maps : List AddMap) → IsStrong F.ID maps N 2 0 (product_gadget N) }
     ensures memory { OnErr result (builder.new ≡ record builder.old { spare = builder.new.spare }) }
 {
-    count_law(&x.regs);
-    count_law(&y.regs);
+    x.law();
+    y.law();
     builder.reserve(5 * pairs_before::<N>(N) as u32 + (N * N) as u32)?;
     let first = builder.len();
     // The cells of two shares: a random element, and its sum with both cross products.

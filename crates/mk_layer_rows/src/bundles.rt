@@ -3,12 +3,15 @@ ghost use Rattle.std.specs.Prelude.{◌≡◌, ◌≤◌, IfOk, IsTrue, ◌↔�
 ghost use Rattle.mk_rules.specs.Pairs.{IsPair};
 ghost use Rattle.mk_bundle.specs.declared.event.Event.TheVariants as event;
 
-use mk_base::{Failed, MemSink, MemSource, Memory};
+use mk_base::{Failed, Items, MemSink, MemSource, Memory};
 use mk_bundle::{
-    BundleReader, BundleRefusal, Event, MOST_BYTES, StreamRefusal, collect_bundle, read_bundle,
-    to_text, write_bundle,
+    BundleReader, BundleRefusal, Event, Head, MOST_BYTES, StreamRefusal, collect_bundle,
+    read_bundle, to_text, write_bundle,
 };
+use mk_code::Instr;
+use mk_field::FieldId;
 use mk_rules::Bundle;
+use mk_ssa::{Op, Operand};
 use std::alloc::Global;
 use std::test::*;
 
@@ -138,34 +141,117 @@ fn is_last(answered: &Event) -> bool
     matches!(answered, Event::End)
 }
 
-/// How many events a text has, of which at most `most` bytes come at once.
-fn events(alloc: Global, text: &str, most: usize) -> Result<u32, StreamRefusal>
+/// The events of a text, of which at most `most` bytes come at once.
+fn events(alloc: Global, text: &str, most: usize) -> Result<Vec<Event>, StreamRefusal>
     requires { 1 ≤ most }
 {
     let mut source = MemSource::new(alloc, text.as_bytes(), most, &[])?;
     let mut reader = BundleReader::new(alloc, MOST_BYTES)?;
-    let mut count = 0u32;
+    let mut events = Vec::new(alloc);
     loop {
         let answered = reader.next(&mut source)?;
-        count = count.saturating_add(1);
-        if is_last(&answered) {
-            return Ok(count);
+        let last = is_last(&answered);
+        if events.push(answered).is_err() {
+            return Err(StreamRefusal::Memory);
+        }
+        if last {
+            return Ok(events);
         }
     }
 }
 
 #[test]
-fn events_come_one_by_one(rt: HostRuntime) {
-    for (text, most, count) in [
-        (SUM, 1, 8),
-        (SUM_TWICE, 1, 10),
-        (KINDS, 1, 27),
-        (KINDS, 2, 27),
-        (KINDS, 3, 27),
-        (KINDS, 4096, 27),
-    ] {
-        assert_eq!(rt; events(rt.alloc(), text, most), Ok(count));
+fn events_come_one_by_one(rt: HostRuntime) -> Result<(), StreamRefusal> {
+    for (text, count) in [(SUM, 8), (SUM_TWICE, 10), (KINDS, 27)] {
+        assert_eq!(rt; events(rt.alloc(), text, 1)?.len(), count);
     }
+    Ok(())
+}
+
+/// The product of a secret, refreshed, and itself.
+const PRODUCT: &str =
+    "mask 1\nfield gf2\norder 1\nsecrets 1\npublics 0\nblock refresh s0\nblock mul b0 s0\nclaim b1\ncode\nrnd\nadd 0 2\nadd 1 2\nrnd\nmul 3 1\nadd 5 6\nmul 4 0\nadd 7 8\nmul 3 0\nadd 10 5\nmul 4 1\nadd 12 9\nout 11 13\nend\n";
+
+/// Its instructions.
+const INSTRS: [Instr; 12] = [
+    Instr::Rnd,
+    Instr::Add { left: 0, right: 2 },
+    Instr::Add { left: 1, right: 2 },
+    Instr::Rnd,
+    Instr::Mul { left: 3, right: 1 },
+    Instr::Add { left: 5, right: 6 },
+    Instr::Mul { left: 4, right: 0 },
+    Instr::Add { left: 7, right: 8 },
+    Instr::Mul { left: 3, right: 0 },
+    Instr::Add { left: 10, right: 5 },
+    Instr::Mul { left: 4, right: 1 },
+    Instr::Add { left: 12, right: 9 },
+];
+
+/// Its events.
+fn events_of_product(alloc: Global) -> Result<Vec<Event>, Fail> {
+    let mut outs = Items::new(alloc);
+    outs.push(11).ok().ok_or("there is memory")?;
+    outs.push(13).ok().ok_or("there is memory")?;
+    let mut events = vec![in alloc;
+        Event::Head(Head {
+            field: FieldId::Gf2,
+            order: 1,
+            secrets: 1,
+            publics: 0,
+            maps: Items::new(alloc),
+        }),
+        Event::Block(Op::Refresh {
+            arg: Operand::Secret(0),
+        }),
+        Event::Block(Op::Mul {
+            left: Operand::Block(0),
+            right: Operand::Secret(0),
+        }),
+        Event::Claim(Operand::Block(1)),
+        Event::Code,
+    ]?;
+    for instr in INSTRS {
+        events.push(Event::Instr(instr))?;
+    }
+    events.push(Event::Out(outs))?;
+    events.push(Event::End)?;
+    Ok(events)
+}
+
+/// Whether both are the same event.
+fn is_same(one: &Event, other: &Event) -> bool {
+    match (one, other) {
+        (Event::Head(one), Event::Head(other)) => {
+            one.field == other.field
+                && one.order == other.order
+                && one.secrets == other.secrets
+                && one.publics == other.publics
+                && one.maps.as_slice() == other.maps.as_slice()
+        }
+        (Event::Block(one), Event::Block(other)) => one == other,
+        (Event::Claim(one), Event::Claim(other)) => one == other,
+        (Event::Code, Event::Code) => true,
+        (Event::Instr(one), Event::Instr(other)) => one == other,
+        (Event::Out(one), Event::Out(other)) => one.as_slice() == other.as_slice(),
+        (Event::End, Event::End) => true,
+        _ => false,
+    }
+}
+
+#[test]
+fn events_are_the_same_in_any_pieces(rt: HostRuntime) -> Result<(), Fail> {
+    let wanted = events_of_product(rt.alloc())?;
+    for most in [1, 2, 3, 4096] {
+        let read = events(rt.alloc(), PRODUCT, most)
+            .ok()
+            .ok_or("the text is a bundle's")?;
+        assert_eq!(rt; read.len(), wanted.len());
+        for (one, other) in read.iter().zip(&wanted) {
+            assert!(rt; is_same(one, other), "{one:?} in pieces of {most}");
+        }
+    }
+    Ok(())
 }
 
 /// Why a text is not collected of a source that fails at these calls.

@@ -7,9 +7,13 @@
 #[cfg(test)]
 mod bundles;
 #[cfg(test)]
+mod checked;
+#[cfg(test)]
 mod compiled;
 #[cfg(test)]
 mod counted;
+#[cfg(test)]
+mod gadget_texts;
 #[cfg(test)]
 mod gadgets;
 #[cfg(test)]

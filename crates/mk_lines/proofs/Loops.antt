@@ -1,20 +1,56 @@
 -- Loops read one thing after the other, as the definitions do.
-use Rattle.std.proofs.Common.{◌≡◌, ◌≢◌, ℕ, suc, ◌<◌, ◌≤◌, true, false, List, [], ◌∷◌, ◌++◌, length, Option, Some, None, nat_lt, refl, sym, ap, ◌∙◌, arith, append_assoc}
-use Rattle.std.specs.Prelude.{codes, MatchOption}
-use Rattle.std.specs.Borrow.{Bor}
-use Rattle.std.proofs.lemmas.Bool.{lt-ltb, le-ltb}
+use Rattle.std.proofs.Common.{◌≡◌, ◌≢◌, ℕ, suc, ◌+◌, ◌-◌, ◌<◌, ◌≤◌, true, false, List, [], ◌∷◌, ◌++◌, length, take, drop, get_or, Option, Some, None, nat_lt, refl, sym, ap, ◌∙◌, arith, append_assoc, add-one, drop-cons, drop_of_length-le}
+use Rattle.std.specs.Prelude.{codes}
+use Rattle.std.proofs.lemmas.Bool.{lt-ltb, le-ltb, eq-eqb, ne_eqb}
 use Rattle.std.proofs.lemmas.List.{append-nil}
-use Rattle.mk_lines.specs.Parsing.{◌>>=◌, Tells, after, whole, number_at, hex_at, images_at, positions_of}
-use Rattle.mk_lines.proofs.Steps.{after_found, after_again}
+use Rattle.std.proofs.Math.Seq.{take-length}
+use Rattle.mk_lines.specs.Parsing.{◌>>=◌, after, whole, number_at, hex_at, images_at, positions_of}
 
--- a front that is there or not
-pub after_tells : (word bytes : List ℕ) (r : Option (Bor (List ℕ))) → MatchOption r ((rest : List ℕ) → bytes ≢ word ++ rest) (λ x. bytes ≡ word ++ x.now) → Tells (λ (x : Bor (List ℕ)). x.now) r (after word bytes)
-after_tells word bytes (Some x) h = ap (after word) h ∙ after_again word x.now
-after_tells word bytes None h = by (after word bytes) refl
-  where
-    by : (o : Option (List ℕ)) → after word bytes ≡ o → after word bytes ≡ None
-    by (Some rest) is = absurd (h rest (after_found word bytes rest is))
-    by None is = is
+-- ---- fronts
+
+-- what stands behind the first byte
+pub behind_first : (b : ℕ) (bs : List ℕ) → take (length (b ∷ bs) - 1) (drop 1 (b ∷ bs)) ≡ bs
+behind_first b bs =
+    let all : length (b ∷ bs) - 1 ≡ length bs = omega arith in
+    ap (λ (n : ℕ). take n bs) all ∙ take-length bs
+
+-- behind the first of those that are left are those that are left behind it
+pub behind_left : (bytes rest : List ℕ) (i : ℕ) → i < length bytes → rest ≡ drop i bytes → take (length rest - 1) (drop 1 rest) ≡ drop (i + 1) bytes
+behind_left bytes rest i lt is =
+    let front : drop i bytes ≡ get_or bytes i 0 ∷ drop (i + 1) bytes = rw add-one (drop-cons bytes i 0 lt) in
+    rw (is, front) (behind_first (get_or bytes i 0) (drop (i + 1) bytes))
+
+-- ---- words
+
+-- a letter that stands at the front is passed
+pub after_more : (word bytes : List ℕ) (i : ℕ) (total : Option (List ℕ)) → i < length word → 0 < length bytes → get_or word i 0 ≡ get_or bytes 0 0
+    → after (drop i word) bytes ≡ total → after (drop (i + 1) word) (take (length bytes - 1) (drop 1 bytes)) ≡ total
+unfolding after
+after_more word [] i total lt some is so_far = absurd (omega (arith, some))
+after_more word (b ∷ bs) i total lt some is so_far =
+    let front : drop i word ≡ b ∷ drop (i + 1) word = rw add-one (drop-cons word i 0 lt) ∙ ap (λ (w : ℕ). w ∷ drop (i + 1) word) is in
+    let one : after (drop i word) (b ∷ bs) ≡ after (drop (i + 1) word) bs = rw (front, eq-eqb b b refl) refl in
+    rw (behind_first b bs) (sym one ∙ so_far)
+
+-- another letter stands at the front, or none
+pub after_other : (word bytes : List ℕ) (i : ℕ) (total : Option (List ℕ)) → i < length word → (0 < length bytes → get_or word i 0 ≢ get_or bytes 0 0)
+    → after (drop i word) bytes ≡ total → total ≡ None
+unfolding after
+after_other word [] i total lt isnt so_far =
+    let front : drop i word ≡ get_or word i 0 ∷ drop (i + 1) word = rw add-one (drop-cons word i 0 lt) in
+    let one : after (drop i word) [] ≡ None = rw front refl in
+    sym so_far ∙ one
+after_other word (b ∷ bs) i total lt isnt so_far =
+    let front : drop i word ≡ get_or word i 0 ∷ drop (i + 1) word = rw add-one (drop-cons word i 0 lt) in
+    let one : after (drop i word) (b ∷ bs) ≡ None = rw (front, ne_eqb (get_or word i 0) b (isnt (omega arith))) refl in
+    sym so_far ∙ one
+
+-- all letters were passed
+pub after_done : (word rest : List ℕ) (i : ℕ) (total : Option (List ℕ)) → length word ≤ i → after (drop i word) rest ≡ total → total ≡ Some rest
+unfolding after
+after_done word rest i total all so_far =
+    let one : after (drop i word) rest ≡ Some rest = rw (drop_of_length-le word all) refl in
+    sym so_far ∙ one
 
 -- ---- images
 

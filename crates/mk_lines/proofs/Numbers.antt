@@ -1,16 +1,15 @@
 -- A number that is printed is read back, and what is read is printed so.
-use Rattle.std.proofs.Common.{◌≡◌, ℕ, zero, suc, ◌^◌, ◌<◌, true, false, ◌⊎◌, List, [], ◌∷◌, ◌++◌, length, take, drop, get_or, Option, Some, None, nat_lt, refl, sym, ap, subst, ◌∙◌, inl, inr, arith}
-use Rattle.std.specs.Prelude.{cond, take_while, decimal, MatchOption, ◌&&◌, ◌==◌, not}
+use Rattle.std.proofs.Common.{◌≡◌, ℕ, zero, suc, ◌+◌, ◌*◌, ◌-◌, ◌^◌, ◌<◌, ◌≤◌, Bool, true, false, ◌⊎◌, List, [], ◌∷◌, ◌++◌, length, drop, get_or, Option, Some, None, nat_lt, refl, sym, ap, subst, ◌∙◌, inl, inr, arith, add-one, drop-cons, drop_of_length-le}
+use Rattle.std.specs.Prelude.{cond, take_while, decimal, ◌&&◌, ◌==◌, not}
 use Rattle.std.specs.Char.{is_ascii_digit}
 use Rattle.std.specs.Str.{all_ascii_digits}
-use Rattle.std.proofs.lemmas.Bool.{ltb-true, lt-ltb, eqb-true, eq-eqb, and_parts, and_from, cases_Bool, cond-true}
+use Rattle.std.proofs.lemmas.Bool.{ltb-true, lt-ltb, le-ltb, eqb-true, eq-eqb, and_parts, and_from, cases_Bool, cond-true}
 use Rattle.std.proofs.lemmas.List.{drop_at, append-nil}
 use Rattle.std.proofs.lemmas.List.Sums.{take_while-cons}
-use Rattle.std.proofs.Math.Seq.{take-append_seam}
 use Rattle.std.proofs.lemmas.Fmt.{digits_decimal, digits_value-decimal, decimal-digits_value, decimal_nonempty, first_decimal, decimal_digit}
-use Rattle.mk_base.specs.Digits.{IsDecimal, valued}
-use Rattle.mk_base.proofs.Digits.{own}
-use Rattle.mk_lines.specs.Parsing.{whole, leads, number_by, number_at, number_of}
+use Rattle.mk_base.specs.Digits.{valued}
+use Rattle.mk_base.proofs.Digits.{own, valued-ge}
+use Rattle.mk_lines.specs.Parsing.{◌>>=◌, whole, leads, number_by, number_at, digits_from, number_of}
 use Rattle.mk_lines.proofs.Steps.{bind_some, same_some, passed, whole_found}
 
 -- what stands behind a number doesn't go on with it
@@ -85,22 +84,88 @@ number_by_again n small =
     ap (λ b. cond b (Some (valued 0 (decimal n))) None) (and_from (leads (decimal n)) (nat_lt (valued 0 (decimal n)) (2 ^ 32)) (leads_decimal n small) below)
     ∙ ap (λ (m : ℕ). Some m) is
 
--- the code's reading of digits is that of the definition
-pub number_told : (o : Option ℕ) (ds : List ℕ) → all_ascii_digits ds ≡ true → MatchOption o ((n : ℕ) → IsDecimal 4294967295 n ds → ⊥) (λ n. IsDecimal 4294967295 n ds) → o ≡ number_by ds
-number_told (Some n) ds all h = sym (ap number_by h.0 ∙ number_by_again n (omega (arith, h.1)))
-number_told None ds all h = by (number_by ds) refl
-  where
-    by : (o : Option ℕ) → number_by ds ≡ o → None ≡ o
-    by None e = refl
-    by (Some n) e = let found = number_by_found ds n all e in absurd (h n (found.0, omega (arith, found.1)))
+-- where no digit stands, the number is the one that was made before
+pub digits_end : (n : ℕ) (bytes : List ℕ) → n < 2 ^ 32 → EndsNumber bytes → digits_from n bytes ≡ Some (n, bytes)
+unfolding digits_from valued
+digits_end n [] small ends = rw (lt-ltb n (2 ^ 32) small) refl
+digits_end n (b ∷ bs) small ends = rw (take_while-cons is_ascii_digit b bs, ends) (rw (lt-ltb n (2 ^ 32) small) refl)
 
--- as many bytes as there are digits at the front are all digits
-pub front_digits : (bytes : List ℕ) (n : ℕ) → n ≡ length (take_while is_ascii_digit bytes) → all_ascii_digits (take n bytes) ≡ true
-front_digits bytes n is =
+-- a digit makes a number with those before it, which those behind it go on with
+pub digits_more : (n b : ℕ) (bs : List ℕ) → is_ascii_digit b ≡ true → digits_from n (b ∷ bs) ≡ digits_from (n * 10 + (b - 48)) bs
+unfolding digits_from valued
+digits_more n b bs digit = rw (take_while-cons is_ascii_digit b bs, digit) refl
+
+-- the same at a place in bytes
+pub digits_more_at : (n i : ℕ) (bytes : List ℕ) (total : Option (ℕ × List ℕ)) → i < length bytes → is_ascii_digit (get_or bytes i 0) ≡ true
+    → digits_from n (drop i bytes) ≡ total → digits_from (n * 10 + (get_or bytes i 0 - 48)) (drop (i + 1) bytes) ≡ total
+digits_more_at n i bytes total lt digit so_far =
+    let front : drop i bytes ≡ get_or bytes i 0 ∷ drop (i + 1) bytes = rw add-one (drop-cons bytes i 0 lt) in
+    sym (ap (digits_from n) front ∙ digits_more n (get_or bytes i 0) (drop (i + 1) bytes) digit) ∙ so_far
+
+-- where no digit stands at a place in bytes, the number is the one that was made before
+pub digits_end_at : (n i : ℕ) (bytes : List ℕ) (total : Option (ℕ × List ℕ)) → n < 2 ^ 32 → i < length bytes → is_ascii_digit (get_or bytes i 0) ≡ false
+    → digits_from n (drop i bytes) ≡ total → total ≡ Some (n, drop i bytes)
+digits_end_at n i bytes total small lt isnt so_far =
+    let front : drop i bytes ≡ get_or bytes i 0 ∷ drop (i + 1) bytes = rw add-one (drop-cons bytes i 0 lt) in
+    let ends : EndsNumber (drop i bytes) = subst EndsNumber (sym front) isnt in
+    sym so_far ∙ digits_end n (drop i bytes) small ends
+
+-- at the end of bytes, the number is the one that was made before
+pub digits_done : (n i : ℕ) (bytes : List ℕ) (total : Option (ℕ × List ℕ)) → n < 2 ^ 32 → length bytes ≤ i → digits_from n (drop i bytes) ≡ total → total ≡ Some (n, drop i bytes)
+digits_done n i bytes total small done so_far =
+    let ends : EndsNumber (drop i bytes) = subst EndsNumber (sym (drop_of_length-le bytes done)) tt in
+    sym so_far ∙ digits_end n (drop i bytes) small ends
+
+-- digits behind a number of more than 32 bits make none
+pub digits_large : (n : ℕ) (bytes : List ℕ) → 2 ^ 32 ≤ n → digits_from n bytes ≡ None
+unfolding digits_from
+digits_large n bytes large =
     let digits = take_while is_ascii_digit bytes in
-    let taken : take n bytes ≡ digits =
-    ap (λ (m : ℕ). take m bytes) is ∙ ap (take (length digits)) (front bytes) ∙ take-append_seam digits (drop (length digits) bytes) in
-    ap all_ascii_digits taken ∙ all_front bytes
+    rw (le-ltb (valued n digits) (2 ^ 32) (omega (arith, large, valued-ge n digits))) refl
+
+-- the first digits lead where there is one, and it is no zero before another
+pub leads_long : (a b : ℕ) (bs : List ℕ) → leads (take_while is_ascii_digit (a ∷ b ∷ bs)) ≡ cond (is_ascii_digit a) (cond (a == 48) (not (is_ascii_digit b)) true) false
+unfolding leads
+leads_long a b bs = elim (cases_Bool (is_ascii_digit a)) [
+  | inr failed ↦ rw (take_while-cons is_ascii_digit a (b ∷ bs), failed) refl
+  | inl held ↦ elim (cases_Bool (is_ascii_digit b)) [
+    | inl both ↦ rw (take_while-cons is_ascii_digit a (b ∷ bs), held, take_while-cons is_ascii_digit b bs, both) (by (a == 48))
+    | inr one ↦ rw (take_while-cons is_ascii_digit a (b ∷ bs), held, take_while-cons is_ascii_digit b bs, one) (any (a == 48))
+  ]
+]
+  where
+    by : (zero : Bool) → not zero ≡ cond zero (not true) true
+    by true = refl
+    by false = refl
+
+    any : (zero : Bool) → true ≡ cond zero (not false) true
+    any true = refl
+    any false = refl
+
+-- a byte alone leads where it is a digit
+pub leads_one : (a : ℕ) → leads (take_while is_ascii_digit (a ∷ [])) ≡ is_ascii_digit a
+unfolding leads
+leads_one a = elim (cases_Bool (is_ascii_digit a)) [
+  | inl held ↦ rw (take_while-cons is_ascii_digit a [], held) refl
+  | inr failed ↦ rw (take_while-cons is_ascii_digit a [], failed) refl
+]
+
+-- where the digits at the front lead, they are the number there
+pub number_at_digits : (bytes : List ℕ) → leads (take_while is_ascii_digit bytes) ≡ true → number_at bytes ≡ digits_from 0 bytes
+unfolding number_at number_by digits_from
+number_at_digits bytes led =
+    let digits = take_while is_ascii_digit bytes in
+    let rest = drop (length digits) bytes in
+    rw led (by (nat_lt (valued 0 digits) (2 ^ 32)) (valued 0 digits) rest)
+  where
+    by : (small : Bool) (n : ℕ) (rest : List ℕ) → ◌>>=◌ {B = ℕ × List ℕ} (cond small (Some n) None) (λ m. Some (m, rest)) ≡ cond small (Some (n, rest)) None
+    by true n rest = refl
+    by false n rest = refl
+
+-- and where they don't lead, there is none
+pub number_at_none : (bytes : List ℕ) → leads (take_while is_ascii_digit bytes) ≡ false → number_at bytes ≡ None
+unfolding number_at number_by
+number_at_none bytes led = rw led refl
 
 -- what is read at the front is a number's text
 pub number_found : (bytes : List ℕ) (x : ℕ × List ℕ) → number_at bytes ≡ Some x → (bytes ≡ decimal x.0 ++ x.1) × (x.0 < 2 ^ 32)

@@ -1,9 +1,11 @@
 -- The words of lines that are written are read back, and what is read is written so.
-use Rattle.std.proofs.Common.{◌≡◌, ℕ, zero, suc, ◌+◌, ◌*◌, ◌-◌, ◌/◌, ◌%◌, ◌^◌, ◌<◌, ◌≤◌, false, List, [], ◌∷◌, ◌++◌, length, Option, Some, None, nat_lt, refl, sym, ap, subst, ◌∙◌, inl, inr, arith, append_assoc}
+use Rattle.std.proofs.Common.{◌≡◌, ℕ, zero, suc, ◌+◌, ◌*◌, ◌-◌, ◌/◌, ◌%◌, ◌^◌, ◌<◌, ◌≤◌, Bool, ◌&&◌, false, true≢false, List, [], ◌∷◌, ◌++◌, length, Option, Some, None, nat_lt, refl, sym, ap, ap₂, subst, ◌∙◌, inl, inr, arith, append_assoc}
 use Rattle.std.specs.Prelude.{cond, codes, decimal, flat_map, ◌==◌}
 use Rattle.std.specs.List.{AllByRecursion}
-use Rattle.std.proofs.lemmas.Bool.{ltb-true, lt-ltb, le-ltb, ltb-false, eqb-true, cases_Bool}
+use Rattle.std.specs.Char.{is_ascii_uppercase}
+use Rattle.std.proofs.lemmas.Bool.{ltb-true, lt-ltb, le-ltb, ltb-false, le-leb, lt-leb, eqb-true, cases_Bool}
 use Rattle.std.proofs.lemmas.List.{append-nil}
+use Rattle.mk_base.specs.Digits.{hex_value}
 use Rattle.mk_field.specs.declared.map.AddMap.{AddMap}
 use Rattle.mk_ssa.specs.declared.Operand.{Operand}
 use Rattle.mk_ssa.specs.declared.Operand.TheVariants.{Secret, Public, Block}
@@ -13,21 +15,30 @@ use Rattle.mk_ssa.specs.Widths.{OperandFits}
 use Rattle.mk_lines.specs.CertLines.{pair_words, mapped_words}
 use Rattle.mk_lines.specs.CodeLines.{position_word}
 use Rattle.mk_field.specs.Maps.{MapFits}
-use Rattle.mk_lines.specs.Parsing.{◌>>=◌, after, whole, number_at, number_of, hex_value, hex_at, hex_of, images_at, map_of, operand_by, operand_at, operand_of, pair_of, mapped_of, numbers_of, positions_of}
+use Rattle.mk_lines.specs.Parsing.{◌>>=◌, after, whole, number_at, lower_hex_value, hex_at, hex_of, images_at, map_of, operand_by, operand_at, operand_of, pair_of, mapped_of, numbers_at, positions_of}
 use Rattle.mk_lines.proofs.Steps.{bind_some, same_some, chosen, passed, not_passed, after_found, after_again, whole_found}
-use Rattle.mk_lines.proofs.Numbers.{EndsNumber, number_found, number_again, number_of_found, number_of_again}
+use Rattle.mk_lines.proofs.Numbers.{EndsNumber, number_found, number_again}
 
 -- ---- hexadecimal digits
 
--- a hexadecimal digit that has a value is the digit of this value, which is below 16
-hex_value_found : (c n : ℕ) → hex_value c ≡ Some n → (hex_digit n ≡ c) × (n < 16)
-unfolding hex_value
-hex_value_found c n e =
-    let a = not_passed (nat_lt c 48) _ n e in
+-- a lower-case hexadecimal digit that has a value is the digit of this value, which is below 16
+lower_hex_value_found : (c n : ℕ) → lower_hex_value c ≡ Some n → (hex_digit n ≡ c) × (n < 16)
+unfolding lower_hex_value
+lower_hex_value_found c n e =
+    let other = not_passed (is_ascii_uppercase c) (hex_value c) n e in
+    let a = not_passed (nat_lt c 48) _ n other.1 in
     let low = ltb-false c 48 a.0 in
-    elim (chosen (nat_lt c 58) (Some (c - 48)) (cond (nat_lt c 97) None (cond (nat_lt c 103) (Some (c - 87)) None)) (Some n) a.1) [
+    elim (chosen (nat_lt c 58) (Some (c - 48)) _ (Some n) a.1) [
       | inl here ↦ digit low (ltb-true c 58 here.0) (same_some (c - 48) n here.1)
-      | inr there ↦ letter (not_passed (nat_lt c 97) (cond (nat_lt c 103) (Some (c - 87)) None) n there.1)
+      | inr there ↦
+          let b = not_passed (nat_lt c 65) _ n there.1 in
+          let above = ltb-false c 65 b.0 in
+          elim (chosen (nat_lt c 71) (Some (c - 55)) _ (Some n) b.1) [
+            | inl upper ↦
+                let below = ltb-true c 71 upper.0 in
+                absurd (true≢false (sym (ap₂ (λ (x y : Bool). x && y) (le-leb 65 c above) (le-leb c 90 (omega arith))) ∙ other.0))
+            | inr behind ↦ letter (not_passed (nat_lt c 97) (cond (nat_lt c 103) (Some (c - 87)) None) n behind.1)
+          ]
     ]
   where
     digit : 48 ≤ c → c < 58 → c - 48 ≡ n → (hex_digit n ≡ c) × (n < 16)
@@ -45,19 +56,19 @@ hex_value_found c n e =
         (rw (le-ltb n 10 large) (omega arith), omega arith)
 
 -- the digit of a number below 16 has this number as its value
-hex_value_again : (n : ℕ) → n < 16 → hex_value (hex_digit n) ≡ Some n
-unfolding hex_value
-hex_value_again n small = elim (cases_Bool (nat_lt n 10)) [ inl low ↦ digit (ltb-true n 10 low) | inr high ↦ letter (ltb-false n 10 high) ]
+lower_hex_value_again : (n : ℕ) → n < 16 → lower_hex_value (hex_digit n) ≡ Some n
+unfolding lower_hex_value
+lower_hex_value_again n small = elim (cases_Bool (nat_lt n 10)) [ inl low ↦ digit (ltb-true n 10 low) | inr high ↦ letter (ltb-false n 10 high) ]
   where
-    digit : n < 10 → hex_value (hex_digit n) ≡ Some n
+    digit : n < 10 → lower_hex_value (hex_digit n) ≡ Some n
     digit low =
         let is : hex_digit n ≡ 48 + n = rw (lt-ltb n 10 low) refl in
-        rw (is, le-ltb (48 + n) 48 (omega arith), lt-ltb (48 + n) 58 (omega arith)) (ap (λ (m : ℕ). Some m) (let e : 48 + n - 48 ≡ n = omega arith in e))
+        rw (is, lt-leb 65 (48 + n) (omega arith), le-ltb (48 + n) 48 (omega arith), lt-ltb (48 + n) 58 (omega arith)) (ap (λ (m : ℕ). Some m) (let e : 48 + n - 48 ≡ n = omega arith in e))
 
-    letter : 10 ≤ n → hex_value (hex_digit n) ≡ Some n
+    letter : 10 ≤ n → lower_hex_value (hex_digit n) ≡ Some n
     letter high =
         let is : hex_digit n ≡ 87 + n = rw (le-ltb n 10 high) refl in
-        rw (is, le-ltb (87 + n) 48 (omega arith), le-ltb (87 + n) 58 (omega arith), le-ltb (87 + n) 97 (omega arith), lt-ltb (87 + n) 103 (omega arith)) (ap (λ (m : ℕ). Some m) (let e : 87 + n - 87 ≡ n = omega arith in e))
+        rw (is, le-leb 65 (87 + n) (omega arith), lt-leb (87 + n) 90 (omega arith), le-ltb (87 + n) 48 (omega arith), le-ltb (87 + n) 58 (omega arith), le-ltb (87 + n) 65 (omega arith), le-ltb (87 + n) 71 (omega arith), le-ltb (87 + n) 97 (omega arith), lt-ltb (87 + n) 103 (omega arith)) (ap (λ (m : ℕ). Some m) (let e : 87 + n - 87 ≡ n = omega arith in e))
 
 -- the bytes at the front that are read as an element are its two digits, and it is a byte
 pub hex_found : (bytes : List ℕ) (x : ℕ × List ℕ) → hex_at bytes ≡ Some x → (bytes ≡ hex_byte x.0 ++ x.1) × (x.0 < 256)
@@ -65,11 +76,11 @@ unfolding hex_at
 hex_found [] x e = absurd cc
 hex_found (c ∷ []) x e = absurd cc
 hex_found (c ∷ d ∷ bs) x e =
-    let a = bind_some (hex_value c) (λ (high : ℕ). hex_value d >>= λ low. Some (high * 16 + low, bs)) x e in
-    let b = bind_some (hex_value d) (λ (low : ℕ). Some (a.0 * 16 + low, bs)) x a.2 in
+    let a = bind_some (lower_hex_value c) (λ (high : ℕ). lower_hex_value d >>= λ low. Some (high * 16 + low, bs)) x e in
+    let b = bind_some (lower_hex_value d) (λ (low : ℕ). Some (a.0 * 16 + low, bs)) x a.2 in
     let is : (a.0 * 16 + b.0, bs) ≡ x = same_some (a.0 * 16 + b.0, bs) x b.2 in
-    let high = hex_value_found c a.0 a.1 in
-    let low = hex_value_found d b.0 b.1 in
+    let high = lower_hex_value_found c a.0 a.1 in
+    let low = lower_hex_value_found d b.0 b.1 in
     let over : (a.0 * 16 + b.0) / 16 ≡ a.0 = omega (arith, low.1) in
     let under : (a.0 * 16 + b.0) % 16 ≡ b.0 = omega (arith, low.1) in
     let first : hex_digit ((a.0 * 16 + b.0) / 16) ≡ c = ap hex_digit over ∙ high.0 in
@@ -82,10 +93,10 @@ hex_found (c ∷ d ∷ bs) x e =
 pub hex_again : (n : ℕ) (rest : List ℕ) → n < 256 → hex_at (hex_byte n ++ rest) ≡ Some (n, rest)
 unfolding hex_at
 hex_again n rest small =
-    let high : hex_value (hex_digit (n / 16)) ≡ Some (n / 16) = hex_value_again (n / 16) (omega arith) in
-    let low : hex_value (hex_digit (n % 16)) ≡ Some (n % 16) = hex_value_again (n % 16) (omega arith) in
+    let high : lower_hex_value (hex_digit (n / 16)) ≡ Some (n / 16) = lower_hex_value_again (n / 16) (omega arith) in
+    let low : lower_hex_value (hex_digit (n % 16)) ≡ Some (n % 16) = lower_hex_value_again (n % 16) (omega arith) in
     let is : n / 16 * 16 + n % 16 ≡ n = omega arith in
-    ap (λ (o : Option ℕ). o >>= λ high. hex_value (hex_digit (n % 16)) >>= λ low. Some (high * 16 + low, rest)) high
+    ap (λ (o : Option ℕ). o >>= λ high. lower_hex_value (hex_digit (n % 16)) >>= λ low. Some (high * 16 + low, rest)) high
     ∙ ap (λ (o : Option ℕ). o >>= λ low. Some (n / 16 * 16 + low, rest)) low
     ∙ ap (λ (m : ℕ). let read : ℕ × List ℕ = (m, rest) in Some read) is
 
@@ -258,30 +269,28 @@ mapped_again map arg small fits =
 abbrev pub number_words : ℕ → ℕ → List ℕ
 number_words left right = decimal left ++ codes " " ++ decimal right
 
--- bytes that are read as two numbers are these with a space between, each of 32 bits
-pub numbers_found : (bytes : List ℕ) (x : ℕ × ℕ) → numbers_of bytes ≡ Some x → (bytes ≡ number_words x.0 x.1) × (x.0 < 2 ^ 32) × (x.1 < 2 ^ 32)
-unfolding numbers_of
+-- bytes that are read as two numbers at the front are these with a space between, each of 32 bits, before what is left
+pub numbers_found : (bytes : List ℕ) (x : (ℕ × ℕ) × List ℕ) → numbers_at bytes ≡ Some x → (bytes ≡ number_words x.0.0 x.0.1 ++ x.1) × (x.0.0 < 2 ^ 32) × (x.0.1 < 2 ^ 32)
+unfolding numbers_at
 numbers_found bytes x e =
-    let a = bind_some (number_at bytes) (λ (left : ℕ × List ℕ). after (codes " ") left.1 >>= λ rest. number_of rest >>= λ right. Some (left.0, right)) x e in
-    let b = bind_some (after (codes " ") a.0.1) (λ (rest : List ℕ). number_of rest >>= λ right. Some (a.0.0, right)) x a.2 in
-    let d = bind_some (number_of b.0) (λ (right : ℕ). Some (a.0.0, right)) x b.2 in
-    let is : (a.0.0, d.0) ≡ x = same_some (a.0.0, d.0) x d.2 in
+    let a = bind_some (number_at bytes) (λ (left : ℕ × List ℕ). after (codes " ") left.1 >>= λ rest. number_at rest >>= λ right. Some ((left.0, right.0), right.1)) x e in
+    let b = bind_some (after (codes " ") a.0.1) (λ (rest : List ℕ). number_at rest >>= λ right. Some ((a.0.0, right.0), right.1)) x a.2 in
+    let d = bind_some (number_at b.0) (λ (right : ℕ × List ℕ). Some ((a.0.0, right.0), right.1)) x b.2 in
+    let is : ((a.0.0, d.0.0), d.0.1) ≡ x = same_some ((a.0.0, d.0.0), d.0.1) x d.2 in
     let left = number_found bytes a.0 a.1 in
-    let right = number_of_found b.0 d.0 d.1 in
-    let here : bytes ≡ number_words a.0.0 d.0 =
+    let right = number_found b.0 d.0 d.1 in
+    let here : bytes ≡ number_words a.0.0 d.0.0 ++ d.0.1 =
     left.0 ∙ ap (λ (r : List ℕ). decimal a.0.0 ++ r) (after_found (codes " ") a.0.1 b.0 b.1) ∙ ap (λ (r : List ℕ). decimal a.0.0 ++ (codes " " ++ r)) right.0
-    ∙ sym (append_assoc (decimal a.0.0) (codes " ") (decimal d.0)) in
-    subst (λ (y : ℕ × ℕ). (bytes ≡ number_words y.0 y.1) × (y.0 < 2 ^ 32) × (y.1 < 2 ^ 32)) is (here, left.1, right.1)
+    ∙ sym (append_assoc (decimal a.0.0) (codes " ") (decimal d.0.0 ++ d.0.1)) ∙ sym (append_assoc (decimal a.0.0 ++ codes " ") (decimal d.0.0) d.0.1) in
+    subst (λ (y : (ℕ × ℕ) × List ℕ). (bytes ≡ number_words y.0.0 y.0.1 ++ y.1) × (y.0.0 < 2 ^ 32) × (y.0.1 < 2 ^ 32)) is (here, left.1, right.1)
 
--- two numbers with a space between are read as those two
-pub numbers_again : (left right : ℕ) → left < 2 ^ 32 → right < 2 ^ 32 → numbers_of (number_words left right) ≡ Some (left, right)
-unfolding numbers_of
-numbers_again left right small_left small_right =
-    let first : number_at (number_words left right) ≡ Some (left, codes " " ++ decimal right) =
-    ap number_at (append_assoc (decimal left) (codes " ") (decimal right)) ∙ number_again left (codes " " ++ decimal right) small_left refl in
-    ap (λ (o : Option (ℕ × List ℕ)). o >>= λ left. after (codes " ") left.1 >>= λ rest. number_of rest >>= λ right. Some (left.0, right)) first
-    ∙ ap (λ (o : Option (List ℕ)). o >>= λ rest. number_of rest >>= λ right. Some (left, right)) (after_again (codes " ") (decimal right))
-    ∙ ap (λ (o : Option ℕ). o >>= λ right. Some (left, right)) (number_of_again right small_right)
+-- two numbers with a space between are read as those two, where what stands behind doesn't go on with the second
+pub numbers_again : (left right : ℕ) (rest : List ℕ) → left < 2 ^ 32 → right < 2 ^ 32 → EndsNumber rest → numbers_at (number_words left right ++ rest) ≡ Some ((left, right), rest)
+unfolding numbers_at
+numbers_again left right rest low high ends =
+    let parts : number_words left right ++ rest ≡ decimal left ++ (codes " " ++ (decimal right ++ rest)) =
+    append_assoc (decimal left ++ codes " ") (decimal right) rest ∙ append_assoc (decimal left) (codes " ") (decimal right ++ rest) in
+    rw (parts, number_again left (codes " " ++ (decimal right ++ rest)) low refl, after_again (codes " ") (decimal right ++ rest), number_again right rest high ends) refl
 
 -- ---- positions
 

@@ -1,6 +1,8 @@
 -- Blocks and instructions that are written are read back, and what is read is written so.
-use Rattle.std.proofs.Common.{◌≡◌, ℕ, ◌^◌, ◌<◌, List, ◌++◌, Option, Some, None, refl, sym, ap, subst, ◌∙◌, inl, inr}
-use Rattle.std.specs.Prelude.{codes, decimal, bytes_eq}
+use Rattle.std.proofs.Common.{◌≡◌, ◌≢◌, ℕ, ◌^◌, ◌<◌, List, [], ◌∷◌, ◌++◌, Option, Some, None, refl, sym, ap, subst, ◌∙◌, inl, inr, append_assoc}
+use Rattle.std.proofs.lemmas.List.{append-nil}
+use Rattle.std.proofs.lemmas.Bool.{ne_eqb}
+use Rattle.std.specs.Prelude.{codes, decimal}
 use Rattle.mk_ssa.specs.declared.Operand.{Operand}
 use Rattle.mk_ssa.specs.declared.Op.{Op}
 use Rattle.mk_ssa.specs.declared.Op.TheVariants as op
@@ -11,10 +13,10 @@ use Rattle.mk_field.specs.Digits.{hex_byte}
 use Rattle.mk_lines.specs.CertLines.{pair_words, mapped_words, op_line}
 use Rattle.mk_ssa.specs.Widths.{OperandFits, OpFits}
 use Rattle.mk_lines.specs.CodeLines.{instr_line}
-use Rattle.mk_lines.specs.Parsing.{◌>>=◌, after, behind, or_else, hex_of, number_of, numbers_of, operand_of, pair_of, mapped_of, public_op_of, single_op_of, pair_op_of, op_of, instr_of}
-use Rattle.mk_lines.proofs.Steps.{bind_some, same_some, chosen, behind_found, or_found, is_word}
-use Rattle.mk_lines.proofs.Numbers.{number_of_found, number_of_again}
-use Rattle.mk_lines.proofs.Spelled.{hex_of_found, hex_of_again, operand_of_found, operand_of_again, pair_found, pair_again, mapped_found, mapped_again, number_words, numbers_found, numbers_again}
+use Rattle.mk_lines.specs.Parsing.{◌>>=◌, after, behind, or_else, whole, hex_at, hex_of, number_at, numbers_at, operand_of, pair_of, mapped_of, public_op_of, single_op_of, pair_op_of, op_of, rnd_at, const_or_copy_at, add_at, mul_or_map_at, sq_at, instr_at, instr_of}
+use Rattle.mk_lines.proofs.Steps.{bind_some, same_some, behind_found, or_found, whole_found}
+use Rattle.mk_lines.proofs.Numbers.{EndsNumber, number_found, number_again}
+use Rattle.mk_lines.proofs.Spelled.{hex_found, hex_again, hex_of_found, hex_of_again, operand_of_found, operand_of_again, pair_found, pair_again, mapped_found, mapped_again, number_words, numbers_found, numbers_again}
 
 -- what stands in the line of a block behind `block `
 abbrev pub op_words : Op → List ℕ
@@ -206,65 +208,155 @@ instr_line-words (instr.Mul left right) = refl
 instr_line-words (instr.Sq from) = refl
 instr_line-words (instr.Map map from) = refl
 
--- a kind's word and the spelling of its arguments are the words of the instruction that was made of them
-instr_is : (words word rest spelled : List ℕ) (i x : Instr) → words ≡ word ++ rest → rest ≡ spelled → instr_words i ≡ word ++ spelled → ◌≡◌ {A = Option Instr} (Some i) (Some x) → words ≡ instr_words x
-instr_is words word rest spelled i x here behind made e = here ∙ ap (λ (r : List ℕ). word ++ r) behind ∙ sym made ∙ ap instr_words (same_some i x e)
+-- bytes begin with the words of an instruction whose numbers fit, before what is left
+abbrev pub BeginsWithInstr : List ℕ → Instr × List ℕ → Type 0
+BeginsWithInstr bytes x = (bytes ≡ instr_words x.0 ++ x.1) × InstrFits x.0
 
--- words that are read as an instruction of one number are those of that instruction
-number_is : (word words rest : List ℕ) (make : ℕ → Instr) (x : Instr) → ((n : ℕ) → instr_words (make n) ≡ word ++ decimal n) → words ≡ word ++ rest → (number_of rest >>= λ n. Some (make n)) ≡ Some x → words ≡ instr_words x
-number_is word words rest make x made here e =
-    let a = bind_some (number_of rest) (λ (n : ℕ). Some (make n)) x e in
-    let found = number_of_found rest a.0 a.1 in
-    instr_is words word rest (decimal a.0) (make a.0) x here found.0 (made a.0) a.2
+-- a kind's word and the spelling of its arguments are the words of the instruction that was made of them
+instr_is : (bytes word rest spelled left : List ℕ) (i : Instr) (x : Instr × List ℕ) → bytes ≡ word ++ rest → rest ≡ spelled ++ left → instr_words i ≡ word ++ spelled → InstrFits i
+    → ◌≡◌ {A = Option (Instr × List ℕ)} (Some (i, left)) (Some x) → BeginsWithInstr bytes x
+instr_is bytes word rest spelled left i x here behind made fits e =
+    let all : bytes ≡ instr_words i ++ left =
+    here ∙ ap (λ (r : List ℕ). word ++ r) behind ∙ sym (append_assoc word spelled left) ∙ ap (λ (w : List ℕ). w ++ left) (sym made) in
+    subst (BeginsWithInstr bytes) (same_some (i, left) x e) (all, fits)
+
+-- bytes that are read as an instruction of one number begin with the words of that instruction
+number_is : (word bytes rest : List ℕ) (make : ℕ → Instr) (x : Instr × List ℕ) → ((n : ℕ) → instr_words (make n) ≡ word ++ decimal n) → ((n : ℕ) → n < 2 ^ 32 → InstrFits (make n))
+    → bytes ≡ word ++ rest → (number_at rest >>= λ n. Some (make n.0, n.1)) ≡ Some x → BeginsWithInstr bytes x
+number_is word bytes rest make x made fits here e =
+    let a = bind_some (number_at rest) (λ (n : ℕ × List ℕ). Some (make n.0, n.1)) x e in
+    let found = number_found rest a.0 a.1 in
+    instr_is bytes word rest (decimal a.0.0) a.0.1 (make a.0.0) x here found.0 (made a.0.0) (fits a.0.0 found.1) a.2
 
 -- the same for an instruction of two numbers
-numbers_is : (word words rest : List ℕ) (make : ℕ → ℕ → Instr) (x : Instr) → ((m n : ℕ) → instr_words (make m n) ≡ word ++ number_words m n) → words ≡ word ++ rest
-    → (numbers_of rest >>= λ p. Some (make p.0 p.1)) ≡ Some x → words ≡ instr_words x
-numbers_is word words rest make x made here e =
-    let a = bind_some (numbers_of rest) (λ (p : ℕ × ℕ). Some (make p.0 p.1)) x e in
+numbers_is : (word bytes rest : List ℕ) (make : ℕ → ℕ → Instr) (x : Instr × List ℕ) → ((m n : ℕ) → instr_words (make m n) ≡ word ++ number_words m n)
+    → ((m n : ℕ) → m < 2 ^ 32 → n < 2 ^ 32 → InstrFits (make m n)) → bytes ≡ word ++ rest → (numbers_at rest >>= λ p. Some (make p.0.0 p.0.1, p.1)) ≡ Some x → BeginsWithInstr bytes x
+numbers_is word bytes rest make x made fits here e =
+    let a = bind_some (numbers_at rest) (λ (p : (ℕ × ℕ) × List ℕ). Some (make p.0.0 p.0.1, p.1)) x e in
     let found = numbers_found rest a.0 a.1 in
-    instr_is words word rest (number_words a.0.0 a.0.1) (make a.0.0 a.0.1) x here found.0 (made a.0.0 a.0.1) a.2
+    instr_is bytes word rest (number_words a.0.0.0 a.0.0.1) a.0.1 (make a.0.0.0 a.0.0.1) x here found.0 (made a.0.0.0 a.0.0.1) (fits a.0.0.0 a.0.0.1 found.1 found.2) a.2
 
 -- the same for an instruction of an element
-constant_is : (words rest : List ℕ) (x : Instr) → words ≡ codes "const " ++ rest → (hex_of rest >>= λ value. Some (instr.Const value)) ≡ Some x → words ≡ instr_words x
-constant_is words rest x here e =
-    let a = bind_some (hex_of rest) (λ (value : ℕ). Some (instr.Const value)) x e in
-    let found = hex_of_found rest a.0 a.1 in
-    instr_is words (codes "const ") rest (hex_byte a.0) (instr.Const a.0) x here found.0 refl a.2
+constant_is : (bytes rest : List ℕ) (x : Instr × List ℕ) → bytes ≡ codes "const " ++ rest → (hex_at rest >>= λ v. Some (instr.Const v.0, v.1)) ≡ Some x → BeginsWithInstr bytes x
+constant_is bytes rest x here e =
+    let a = bind_some (hex_at rest) (λ (v : ℕ × List ℕ). Some (instr.Const v.0, v.1)) x e in
+    let found = hex_found rest a.0 a.1 in
+    instr_is bytes (codes "const ") rest (hex_byte a.0.0) a.0.1 (instr.Const a.0.0) x here found.0 refl found.1 a.2
 
--- words that are read as an instruction are those of that instruction
-pub instr_found : (words : List ℕ) (x : Instr) → instr_of words ≡ Some x → words ≡ instr_words x
-unfolding instr_of
-instr_found words x e = elim (chosen (bytes_eq words (codes "rnd")) (Some instr.Rnd) _ (Some x) e) [
-  | inl h ↦ is_word words (codes "rnd") h.0 ∙ ap instr_words (same_some instr.Rnd x h.1)
-  | inr h ↦ elim (behind_found (codes "const ") words _ _ x h.1) [
-    | inl h ↦ constant_is words h.0 x h.1 h.2
-    | inr e ↦ elim (behind_found (codes "copy ") words _ _ x e) [
-      | inl h ↦ number_is (codes "copy ") words h.0 instr.Copy x (λ n. refl) h.1 h.2
-      | inr e ↦ elim (behind_found (codes "add ") words _ _ x e) [
-        | inl h ↦ numbers_is (codes "add ") words h.0 instr.Add x (λ m n. refl) h.1 h.2
-        | inr e ↦ elim (behind_found (codes "mul ") words _ _ x e) [
-          | inl h ↦ numbers_is (codes "mul ") words h.0 instr.Mul x (λ m n. refl) h.1 h.2
-          | inr e ↦ elim (behind_found (codes "sq ") words _ _ x e) [
-            | inl h ↦ number_is (codes "sq ") words h.0 instr.Sq x (λ n. refl) h.1 h.2
-            | inr e ↦ elim (behind_found (codes "map ") words _ _ x e) [
-              | inl h ↦ numbers_is (codes "map ") words h.0 instr.Map x (λ m n. refl) h.1 h.2
-              | inr e ↦ absurd (cc)
-            ]
-          ]
-        ]
-      ]
+-- where no instruction was read, any bytes would begin with it
+no_instr : (bytes : List ℕ) (x : Instr × List ℕ) → ◌≡◌ {A = Option (Instr × List ℕ)} None (Some x) → BeginsWithInstr bytes x
+no_instr bytes x e = absurd cc
+
+-- bytes that are read as a random element begin with its word
+rnd_found : (bytes : List ℕ) (x : Instr × List ℕ) → rnd_at bytes ≡ Some x → BeginsWithInstr bytes x
+unfolding rnd_at
+rnd_found bytes x e = elim (behind_found (codes "rnd") bytes _ _ x e) [ inl h ↦ instr_is bytes (codes "rnd") h.0 [] h.0 instr.Rnd x h.1 refl refl tt h.2 | inr e ↦ no_instr bytes x e ]
+
+-- bytes that are read as a constant or a copy begin with its words
+const_or_copy_found : (bytes : List ℕ) (x : Instr × List ℕ) → const_or_copy_at bytes ≡ Some x → BeginsWithInstr bytes x
+unfolding const_or_copy_at
+const_or_copy_found bytes x e = elim (behind_found (codes "const ") bytes _ _ x e) [
+  | inl h ↦ constant_is bytes h.0 x h.1 h.2
+  | inr e ↦ elim (behind_found (codes "copy ") bytes _ _ x e) [ inl h ↦ number_is (codes "copy ") bytes h.0 instr.Copy x (λ n. refl) (λ n f. f) h.1 h.2 | inr e ↦ no_instr bytes x e ]
+]
+
+-- bytes that are read as a sum begin with its words
+add_found : (bytes : List ℕ) (x : Instr × List ℕ) → add_at bytes ≡ Some x → BeginsWithInstr bytes x
+unfolding add_at
+add_found bytes x e = elim (behind_found (codes "add ") bytes _ _ x e) [ inl h ↦ numbers_is (codes "add ") bytes h.0 instr.Add x (λ m n. refl) (λ m n f g. (f, g)) h.1 h.2 | inr e ↦ no_instr bytes x e ]
+
+-- bytes that are read as a product or a map begin with its words
+mul_or_map_found : (bytes : List ℕ) (x : Instr × List ℕ) → mul_or_map_at bytes ≡ Some x → BeginsWithInstr bytes x
+unfolding mul_or_map_at
+mul_or_map_found bytes x e = elim (behind_found (codes "mul ") bytes _ _ x e) [
+  | inl h ↦ numbers_is (codes "mul ") bytes h.0 instr.Mul x (λ m n. refl) (λ m n f g. (f, g)) h.1 h.2
+  | inr e ↦ elim (behind_found (codes "map ") bytes _ _ x e) [ inl h ↦ numbers_is (codes "map ") bytes h.0 instr.Map x (λ m n. refl) (λ m n f g. (f, g)) h.1 h.2 | inr e ↦ no_instr bytes x e ]
+]
+
+-- bytes that are read as a square begin with its words
+sq_found : (bytes : List ℕ) (x : Instr × List ℕ) → sq_at bytes ≡ Some x → BeginsWithInstr bytes x
+unfolding sq_at
+sq_found bytes x e = elim (behind_found (codes "sq ") bytes _ _ x e) [ inl h ↦ number_is (codes "sq ") bytes h.0 instr.Sq x (λ n. refl) (λ n f. f) h.1 h.2 | inr e ↦ no_instr bytes x e ]
+
+-- bytes that are read as an instruction begin with the words of that instruction, and its numbers fit
+pub instr_at_found : (bytes : List ℕ) (x : Instr × List ℕ) → instr_at bytes ≡ Some x → BeginsWithInstr bytes x
+unfolding instr_at
+instr_at_found bytes x e = elim (or_found (add_at bytes) _ x e) [
+  | inl h ↦ add_found bytes x h
+  | inr e ↦ elim (or_found (mul_or_map_at bytes) _ x e) [
+    | inl h ↦ mul_or_map_found bytes x h
+    | inr e ↦ elim (or_found (rnd_at bytes) _ x e) [
+      | inl h ↦ rnd_found bytes x h
+      | inr e ↦ elim (or_found (const_or_copy_at bytes) _ x e) [ inl h ↦ const_or_copy_found bytes x h | inr h ↦ sq_found bytes x h ]
     ]
   ]
 ]
 
+-- the words of an instruction whose numbers fit are read as that instruction, where what stands behind doesn't go on with a number
+pub instr_at_again : (i : Instr) (rest : List ℕ) → InstrFits i → EndsNumber rest → instr_at (instr_words i ++ rest) ≡ Some (i, rest)
+unfolding instr_at add_at mul_or_map_at rnd_at const_or_copy_at sq_at after
+instr_at_again instr.Rnd rest fits ends = refl
+instr_at_again (instr.Const value) rest fits ends = rw (hex_again value rest fits) refl
+instr_at_again (instr.Copy from) rest fits ends = rw (number_again from rest fits ends) refl
+instr_at_again (instr.Add left right) rest fits ends = rw (numbers_again left right rest fits.0 fits.1 ends) refl
+instr_at_again (instr.Mul left right) rest fits ends = rw (numbers_again left right rest fits.0 fits.1 ends) refl
+instr_at_again (instr.Sq from) rest fits ends = rw (number_again from rest fits ends) refl
+instr_at_again (instr.Map map from) rest fits ends = rw (numbers_again map from rest fits.0 fits.1 ends) refl
+
+-- words that are read as an instruction are those of that instruction
+pub instr_found : (words : List ℕ) (x : Instr) → instr_of words ≡ Some x → words ≡ instr_words x
+unfolding instr_of
+instr_found words x e =
+    let a = bind_some (instr_at words) (λ (i : Instr × List ℕ). whole i) x e in
+    let w = whole_found a.0 x a.2 in
+    (instr_at_found words a.0 a.1).0 ∙ ap (λ (i : Instr). instr_words i ++ a.0.1) w.0 ∙ ap (λ (r : List ℕ). instr_words x ++ r) w.1 ∙ append-nil (instr_words x)
+
 -- the words of an instruction whose numbers fit are read as that instruction
 pub instr_again : (i : Instr) → InstrFits i → instr_of (instr_words i) ≡ Some i
-unfolding instr_of after
-instr_again instr.Rnd fits = refl
-instr_again (instr.Const value) fits = rw (hex_of_again value fits) refl
-instr_again (instr.Copy from) fits = rw (number_of_again from fits) refl
-instr_again (instr.Add left right) fits = rw (numbers_again left right fits.0 fits.1) refl
-instr_again (instr.Mul left right) fits = rw (numbers_again left right fits.0 fits.1) refl
-instr_again (instr.Sq from) fits = rw (number_of_again from fits) refl
-instr_again (instr.Map map from) fits = rw (numbers_again map from fits.0 fits.1) refl
+unfolding instr_of whole
+instr_again i fits =
+    let h : instr_at (instr_words i) ≡ Some (i, []) = ap instr_at (sym (append-nil (instr_words i))) ∙ instr_at_again i [] fits tt in
+    rw h refl
+
+-- ---- the first letter
+
+-- where there is nothing else, it is this
+or_none : (o : Option (Instr × List ℕ)) → or_else o None ≡ o
+or_none (Some x) = refl
+or_none None = refl
+
+-- no byte begins an instruction
+pub letter_none : (bytes : List ℕ) → bytes ≡ [] → instr_at bytes ≡ None
+unfolding instr_at add_at mul_or_map_at rnd_at const_or_copy_at sq_at after
+letter_none bytes none = rw none refl
+
+-- an `a` begins a sum
+pub letter_a : (bs : List ℕ) → instr_at (97 ∷ bs) ≡ add_at (97 ∷ bs)
+unfolding instr_at add_at mul_or_map_at rnd_at const_or_copy_at sq_at after
+letter_a bs = or_none (add_at (97 ∷ bs))
+
+-- an `m` begins a product or a map
+pub letter_m : (bs : List ℕ) → instr_at (109 ∷ bs) ≡ mul_or_map_at (109 ∷ bs)
+unfolding instr_at add_at mul_or_map_at rnd_at const_or_copy_at sq_at after
+letter_m bs = or_none (mul_or_map_at (109 ∷ bs))
+
+-- an `r` begins a random element
+pub letter_r : (bs : List ℕ) → instr_at (114 ∷ bs) ≡ rnd_at (114 ∷ bs)
+unfolding instr_at add_at mul_or_map_at rnd_at const_or_copy_at sq_at after
+letter_r bs = or_none (rnd_at (114 ∷ bs))
+
+-- a `c` begins a constant or a copy
+pub letter_c : (bs : List ℕ) → instr_at (99 ∷ bs) ≡ const_or_copy_at (99 ∷ bs)
+unfolding instr_at add_at mul_or_map_at rnd_at const_or_copy_at sq_at after
+letter_c bs = or_none (const_or_copy_at (99 ∷ bs))
+
+-- an `s` begins a square
+pub letter_s : (bs : List ℕ) → instr_at (115 ∷ bs) ≡ sq_at (115 ∷ bs)
+unfolding instr_at add_at mul_or_map_at rnd_at const_or_copy_at after
+letter_s bs = refl
+
+-- any other letter begins none
+pub letter_other : (b : ℕ) (bs : List ℕ) → b ≢ 97 → b ≢ 109 → b ≢ 114 → b ≢ 99 → b ≢ 115 → instr_at (b ∷ bs) ≡ None
+unfolding instr_at add_at mul_or_map_at rnd_at const_or_copy_at sq_at after
+letter_other b bs a m r c s =
+    rw (ne_eqb 97 b (λ e. a (sym e)), ne_eqb 109 b (λ e. m (sym e)), ne_eqb 114 b (λ e. r (sym e)), ne_eqb 99 b (λ e. c (sym e)), ne_eqb 115 b (λ e. s (sym e))) refl

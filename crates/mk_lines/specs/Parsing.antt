@@ -1,7 +1,7 @@
 -- Reading the words of a line from its front on, as lists.
-use Rattle.std.specs.Prelude.{◌≡◌, ℕ, zero, suc, ◌+◌, ◌-◌, ◌*◌, ◌^◌, ◌==◌, Bool, true, false, ◌&&◌, not, List, [], ◌∷◌, length, drop, take_while, Option, Some, None, nat_lt, bytes_eq, codes, if◌then◌else◌}
-use Rattle.std.specs.Char.{is_ascii_digit}
-use Rattle.mk_base.specs.Digits.{valued}
+use Rattle.std.specs.Prelude.{◌≡◌, ℕ, zero, suc, ◌+◌, ◌-◌, ◌*◌, ◌^◌, ◌==◌, Bool, true, false, ◌&&◌, not, List, [], ◌∷◌, length, drop, take_while, Option, Some, None, nat_lt, codes, if◌then◌else◌}
+use Rattle.std.specs.Char.{is_ascii_digit, is_ascii_uppercase}
+use Rattle.mk_base.specs.Digits.{valued, hex_value}
 use Rattle.mk_field.specs.declared.map.AddMap.{AddMap}
 use Rattle.mk_ssa.specs.declared.Operand.{Operand}
 use Rattle.mk_ssa.specs.declared.Operand.TheVariants.{Secret, Public, Block}
@@ -47,6 +47,13 @@ number_at bytes = do
   n ← number_by (take_while is_ascii_digit bytes)
   Some (n, drop (length (take_while is_ascii_digit bytes)) bytes)
 
+-- the number that the digits at the front make behind those that make n, where it is below 2^32, and what stands behind them
+unfoldable pub digits_from : ℕ → List ℕ → Option (ℕ × List ℕ)
+digits_from n bytes =
+    if nat_lt (valued n (take_while is_ascii_digit bytes)) (2 ^ 32)
+    then Some (valued n (take_while is_ascii_digit bytes), drop (length (take_while is_ascii_digit bytes)) bytes)
+    else None
+
 -- a number and nothing behind it
 unfoldable pub number_of : List ℕ → Option ℕ
 number_of bytes = do
@@ -54,20 +61,16 @@ number_of bytes = do
   whole n
 
 -- the value of a lower-case hexadecimal digit
-unfoldable pub hex_value : ℕ → Option ℕ
-hex_value c =
-    if nat_lt c 48 then None else (
-    if nat_lt c 58 then Some (c - 48) else (
-    if nat_lt c 97 then None else (
-    if nat_lt c 103 then Some (c - 87) else None)))
+unfoldable pub lower_hex_value : ℕ → Option ℕ
+lower_hex_value c = if is_ascii_uppercase c then None else hex_value c
 
 -- an element at the front, as two digits
 unfoldable pub hex_at : List ℕ → Option (ℕ × List ℕ)
 hex_at [] = None
 hex_at (c ∷ []) = None
 hex_at (c ∷ d ∷ bs) = do
-  high ← hex_value c
-  low ← hex_value d
+  high ← lower_hex_value c
+  low ← lower_hex_value d
   Some (high * 16 + low, bs)
 
 -- an element and nothing behind it
@@ -128,13 +131,13 @@ mapped_of bytes = do
   arg ← operand_of rest
   Some (map.0, arg)
 
--- two numbers
-unfoldable pub numbers_of : List ℕ → Option (ℕ × ℕ)
-numbers_of bytes = do
+-- two numbers at the front, a space between them
+unfoldable pub numbers_at : List ℕ → Option ((ℕ × ℕ) × List ℕ)
+numbers_at bytes = do
   left ← number_at bytes
   rest ← after (codes " ") left.1
-  right ← number_of rest
-  Some (left.0, right)
+  right ← number_at rest
+  Some ((left.0, right.0), right.1)
 
 -- what stands behind a word is read by f, and where the word does not stand there, it is otherwise
 abbrev pub behind : {A : Type 0} → Option (List ℕ) → (List ℕ → Option A) → Option A → Option A
@@ -175,16 +178,39 @@ or_else None other = other
 unfoldable pub op_of : List ℕ → Option Op
 op_of words = or_else (public_op_of words) (or_else (single_op_of words) (pair_op_of words))
 
+-- a random element at the front
+unfoldable pub rnd_at : List ℕ → Option (Instr × List ℕ)
+rnd_at bytes = behind (after (codes "rnd") bytes) (λ rest. Some (instr.Rnd, rest)) None
+
+-- a constant or a copy at the front
+unfoldable pub const_or_copy_at : List ℕ → Option (Instr × List ℕ)
+const_or_copy_at bytes =
+    behind (after (codes "const ") bytes) (λ rest. hex_at rest >>= λ v. Some (instr.Const v.0, v.1)) (
+    behind (after (codes "copy ") bytes) (λ rest. number_at rest >>= λ n. Some (instr.Copy n.0, n.1)) None)
+
+-- a sum at the front
+unfoldable pub add_at : List ℕ → Option (Instr × List ℕ)
+add_at bytes = behind (after (codes "add ") bytes) (λ rest. numbers_at rest >>= λ p. Some (instr.Add p.0.0 p.0.1, p.1)) None
+
+-- a product or a map at the front
+unfoldable pub mul_or_map_at : List ℕ → Option (Instr × List ℕ)
+mul_or_map_at bytes =
+    behind (after (codes "mul ") bytes) (λ rest. numbers_at rest >>= λ p. Some (instr.Mul p.0.0 p.0.1, p.1)) (
+    behind (after (codes "map ") bytes) (λ rest. numbers_at rest >>= λ p. Some (instr.Map p.0.0 p.0.1, p.1)) None)
+
+-- a square at the front
+unfoldable pub sq_at : List ℕ → Option (Instr × List ℕ)
+sq_at bytes = behind (after (codes "sq ") bytes) (λ rest. number_at rest >>= λ n. Some (instr.Sq n.0, n.1)) None
+
+-- an instruction at the front, which all digits there belong to
+unfoldable pub instr_at : List ℕ → Option (Instr × List ℕ)
+instr_at bytes = or_else (add_at bytes) (or_else (mul_or_map_at bytes) (or_else (rnd_at bytes) (or_else (const_or_copy_at bytes) (sq_at bytes))))
+
 -- an instruction: its line
 unfoldable pub instr_of : List ℕ → Option Instr
-instr_of words =
-    if bytes_eq words (codes "rnd") then Some instr.Rnd else (
-    behind (after (codes "const ") words) (λ rest. hex_of rest >>= λ value. Some (instr.Const value)) (
-    behind (after (codes "copy ") words) (λ rest. number_of rest >>= λ from. Some (instr.Copy from)) (
-    behind (after (codes "add ") words) (λ rest. numbers_of rest >>= λ p. Some (instr.Add p.0 p.1)) (
-    behind (after (codes "mul ") words) (λ rest. numbers_of rest >>= λ p. Some (instr.Mul p.0 p.1)) (
-    behind (after (codes "sq ") words) (λ rest. number_of rest >>= λ from. Some (instr.Sq from)) (
-    behind (after (codes "map ") words) (λ rest. numbers_of rest >>= λ p. Some (instr.Map p.0 p.1)) None))))))
+instr_of words = do
+  i ← instr_at words
+  whole i
 
 -- so many positions below `len`, a space before each, and nothing behind them
 unfoldable pub positions_of : ℕ → ℕ → List ℕ → Option (List ℕ)

@@ -23,7 +23,7 @@ mod words;
 
 pub use cutting::cut;
 pub use lines::{spell_claim, spell_instr, spell_map, spell_op, spell_out};
-pub use parse::{after, instr_of, map_of, number_at, number_of, op_of, operand_of};
+pub use parse::{after, instr_at, instr_of, map_of, number_at, number_of, op_of, operand_of};
 pub use words::{Line, push_number};
 
 #[cfg(test)]

@@ -1,11 +1,10 @@
 //! Reading the words of a line from its front on.
 
-ghost use Rattle.std.specs.Prelude.{◌≡◌, ◌≤◌, true, length, IfSome, take_while};
+ghost use Rattle.std.specs.Prelude.{◌≡◌, ◌≤◌, IfSome, take_while};
 ghost use Rattle.std.specs.Char.{is_ascii_digit};
-ghost use Rattle.std.specs.Str.{all_ascii_digits};
-ghost use Rattle.mk_lines.specs.Parsing.{Tells, after, number_by, number_at, number_of, hex_value, hex_at, hex_of, images_at, map_of, operand_by, operand_at, operand_of, pair_of, mapped_of, numbers_of, public_op_of, single_op_of, pair_op_of, op_of, instr_of};
+ghost use Rattle.mk_lines.specs.Parsing.{Tells, after, leads, digits_from, number_at, number_of, lower_hex_value, hex_at, hex_of, images_at, map_of, operand_by, operand_at, operand_of, pair_of, mapped_of, numbers_at, public_op_of, single_op_of, pair_op_of, op_of, add_at, mul_or_map_at, rnd_at, const_or_copy_at, sq_at, instr_at, instr_of};
 
-use mk_base::decimal_number;
+use mk_base::hex_value;
 use mk_code::Instr;
 use mk_field::AddMap;
 use mk_ssa::{Op, Operand};
@@ -14,26 +13,50 @@ use mk_ssa::{Op, Operand};
 pub fn after<'a>(word: &[u8], bytes: &'a [u8]) -> Option<&'a [u8]>
     ensures { Tells (λ rest. rest.now) result (after word.now bytes.now) }
 {
-    bytes.strip_prefix(word)
+    let mut rest = bytes;
+    for letter in word {
+        let [first, behind @ ..] = rest else {
+            return None;
+        };
+        if *letter != *first {
+            return None;
+        }
+        rest = behind;
+    }
+    Some(rest)
 }
 
-/// How many digits stand at the front.
-fn digit_count(bytes: &[u8]) -> usize
-    ensures count { result ≡ length (take_while is_ascii_digit bytes.now) }
-    ensures within { result ≤ length bytes.now }
+/// Whether a digit stands at the front, and `0` only where no digit stands behind it.
+fn leads(bytes: &[u8]) -> bool
+    ensures { result ≡ leads (take_while is_ascii_digit bytes.now) }
 {
-    bytes
-        .iter()
-        .take_while(|byte| byte.is_ascii_digit())
-        .count()
+    match bytes {
+        [] => false,
+        [first] => first.is_ascii_digit(),
+        [first, second, ..] => {
+            first.is_ascii_digit() && (*first != b'0' || !second.is_ascii_digit())
+        }
+    }
 }
 
-/// The number of these digits, where it has 32 bits and no leading zero.
-fn number_by(digits: &[u8]) -> Option<u32>
-    requires { all_ascii_digits digits.now ≡ true }
-    ensures { result ≡ number_by digits.now }
+/// The number that the digits at the front make, and the bytes behind them. `None` where it has more than
+/// 32 bits.
+fn digits_at(bytes: &[u8]) -> Option<(u32, &[u8])>
+    ensures { Tells (λ x. (x.0, x.1.now)) result (digits_from 0 bytes.now) }
 {
-    decimal_number(digits, u32::MAX)
+    let mut value = 0u64;
+    let mut rest = bytes;
+    for digit in bytes {
+        if !digit.is_ascii_digit() {
+            return Some((value as u32, rest));
+        }
+        value = value * 10 + u64::from(*digit - b'0');
+        if value > u64::from(u32::MAX) {
+            return None;
+        }
+        rest = &rest[1..];
+    }
+    Some((value as u32, rest))
 }
 
 /// The number at the front, in decimal, which all digits there belong to, and the bytes behind it. `None`
@@ -42,9 +65,10 @@ fn number_by(digits: &[u8]) -> Option<u32>
 pub fn number_at(bytes: &[u8]) -> Option<(u32, &[u8])>
     ensures { Tells (λ x. (x.0, x.1.now)) result (number_at bytes.now) }
 {
-    let (digits, rest) = bytes.split_at(digit_count(bytes));
-    let number = number_by(digits)?;
-    Some((number, rest))
+    if !leads(bytes) {
+        return None;
+    }
+    digits_at(bytes)
 }
 
 /// A number, as `number_at` reads it, with nothing behind it.
@@ -60,24 +84,15 @@ pub fn number_of(bytes: &[u8]) -> Option<u32>
 }
 
 /// The value of a lower-case hexadecimal digit.
-#[tactic(auto, unfolding(crate::specs::Parsing::hex_value))]
-fn hex_value(digit: u8) -> Option<u8>
-    ensures value { result ≡ hex_value digit }
+#[tactic(auto, unfolding(crate::specs::Parsing::lower_hex_value))]
+fn lower_hex_value(digit: u8) -> Option<u8>
+    ensures value { result ≡ lower_hex_value digit }
     ensures low { IfSome result (λ value. value ≤ 15) }
 {
-    if digit < b'0' {
+    if digit.is_ascii_uppercase() {
         return None;
     }
-    if digit < b'0' + 10 {
-        return Some(digit - b'0');
-    }
-    if digit < b'a' {
-        return None;
-    }
-    if digit < b'a' + 6 {
-        return Some(digit - b'a' + 10);
-    }
-    None
+    hex_value(digit)
 }
 
 /// The element at the front, which has two digits, and the bytes behind it.
@@ -88,8 +103,8 @@ fn hex_at(bytes: &[u8]) -> Option<(u8, &[u8])>
     let [first, second, rest @ ..] = bytes else {
         return None;
     };
-    let high = hex_value(*first)?;
-    let low = hex_value(*second)?;
+    let high = lower_hex_value(*first)?;
+    let low = lower_hex_value(*second)?;
     Some((high * 16 + low, rest))
 }
 
@@ -196,15 +211,15 @@ fn mapped_of(bytes: &[u8]) -> Option<(u32, Operand)>
     Some((map, arg))
 }
 
-/// Two numbers.
-#[tactic(auto, unfolding(crate::specs::Parsing::numbers_of))]
-fn numbers_of(bytes: &[u8]) -> Option<(u32, u32)>
-    ensures { result ≡ numbers_of bytes.now }
+/// Two numbers at the front, a space between them, and the bytes behind them.
+#[tactic(auto, unfolding(crate::specs::Parsing::numbers_at))]
+fn numbers_at(bytes: &[u8]) -> Option<((u32, u32), &[u8])>
+    ensures { Tells (λ x. (x.0, x.1.now)) result (numbers_at bytes.now) }
 {
     let (left, rest) = number_at(bytes)?;
     let rest = after(b" ", rest)?;
-    let right = number_of(rest)?;
-    Some((left, right))
+    let (right, rest) = number_at(rest)?;
+    Some(((left, right), rest))
 }
 
 /// A block of publics.
@@ -291,35 +306,97 @@ pub fn op_of(words: &[u8]) -> Option<Op>
     pair_op_of(words)
 }
 
+/// A sum at the front, and the bytes behind it.
+#[tactic(auto, unfolding(crate::specs::Parsing::add_at))]
+fn add_at(bytes: &[u8]) -> Option<(Instr, &[u8])>
+    ensures { Tells (λ x. (x.0, x.1.now)) result (add_at bytes.now) }
+{
+    let rest = after(b"add ", bytes)?;
+    let ((left, right), rest) = numbers_at(rest)?;
+    Some((Instr::Add { left, right }, rest))
+}
+
+/// A product or a map at the front, and the bytes behind it.
+#[tactic(auto, unfolding(crate::specs::Parsing::mul_or_map_at))]
+fn mul_or_map_at(bytes: &[u8]) -> Option<(Instr, &[u8])>
+    ensures { Tells (λ x. (x.0, x.1.now)) result (mul_or_map_at bytes.now) }
+{
+    if let Some(rest) = after(b"mul ", bytes) {
+        let ((left, right), rest) = numbers_at(rest)?;
+        return Some((Instr::Mul { left, right }, rest));
+    }
+    let rest = after(b"map ", bytes)?;
+    let ((map, from), rest) = numbers_at(rest)?;
+    Some((Instr::Map { map, from }, rest))
+}
+
+/// A random element at the front, and the bytes behind it.
+#[tactic(auto, unfolding(crate::specs::Parsing::rnd_at))]
+fn rnd_at(bytes: &[u8]) -> Option<(Instr, &[u8])>
+    ensures { Tells (λ x. (x.0, x.1.now)) result (rnd_at bytes.now) }
+{
+    let rest = after(b"rnd", bytes)?;
+    Some((Instr::Rnd, rest))
+}
+
+/// A constant or a copy at the front, and the bytes behind it.
+#[tactic(auto, unfolding(crate::specs::Parsing::const_or_copy_at))]
+fn const_or_copy_at(bytes: &[u8]) -> Option<(Instr, &[u8])>
+    ensures { Tells (λ x. (x.0, x.1.now)) result (const_or_copy_at bytes.now) }
+{
+    if let Some(rest) = after(b"const ", bytes) {
+        let (value, rest) = hex_at(rest)?;
+        return Some((Instr::Const { value }, rest));
+    }
+    let rest = after(b"copy ", bytes)?;
+    let (from, rest) = number_at(rest)?;
+    Some((Instr::Copy { from }, rest))
+}
+
+/// A square at the front, and the bytes behind it.
+#[tactic(auto, unfolding(crate::specs::Parsing::sq_at))]
+fn sq_at(bytes: &[u8]) -> Option<(Instr, &[u8])>
+    ensures { Tells (λ x. (x.0, x.1.now)) result (sq_at bytes.now) }
+{
+    let rest = after(b"sq ", bytes)?;
+    let (from, rest) = number_at(rest)?;
+    Some((Instr::Sq { from }, rest))
+}
+
+/// The instruction at the front, which all digits there belong to, and the bytes behind it. Its first letter
+/// chooses the kind.
+pub fn instr_at(bytes: &[u8]) -> Option<(Instr, &[u8])>
+    ensures { Tells (λ x. (x.0, x.1.now)) result (instr_at bytes.now) }
+{
+    let [kind, ..] = bytes else {
+        return None;
+    };
+    if *kind == b'a' {
+        return add_at(bytes);
+    }
+    if *kind == b'm' {
+        return mul_or_map_at(bytes);
+    }
+    if *kind == b'r' {
+        return rnd_at(bytes);
+    }
+    if *kind == b'c' {
+        return const_or_copy_at(bytes);
+    }
+    if *kind == b's' {
+        return sq_at(bytes);
+    }
+    None
+}
+
 /// An instruction: its line, up to the line feed.
-#[tactic(auto, unfolding(crate::specs::Parsing::instr_of))]
+#[tactic(auto, unfolding(crate::specs::Parsing::instr_of, crate::specs::Parsing::whole))]
 pub fn instr_of(words: &[u8]) -> Option<Instr>
     ensures { result ≡ instr_of words.now }
 {
-    if words == b"rnd".as_slice() {
-        return Some(Instr::Rnd);
+    let (instr, rest) = instr_at(words)?;
+    if !rest.is_empty() {
+        return None;
     }
-    if let Some(rest) = after(b"const ", words) {
-        let value = hex_of(rest)?;
-        return Some(Instr::Const { value });
-    }
-    if let Some(rest) = after(b"copy ", words) {
-        let from = number_of(rest)?;
-        return Some(Instr::Copy { from });
-    }
-    if let Some(rest) = after(b"add ", words) {
-        let (left, right) = numbers_of(rest)?;
-        return Some(Instr::Add { left, right });
-    }
-    if let Some(rest) = after(b"mul ", words) {
-        let (left, right) = numbers_of(rest)?;
-        return Some(Instr::Mul { left, right });
-    }
-    if let Some(rest) = after(b"sq ", words) {
-        let from = number_of(rest)?;
-        return Some(Instr::Sq { from });
-    }
-    let rest = after(b"map ", words)?;
-    let (map, from) = numbers_of(rest)?;
-    Some(Instr::Map { map, from })
+    Some(instr)
 }

@@ -12,7 +12,8 @@ use Rattle.mk_field.proofs.Product.{product-in_field}
 use Rattle.mk_code.specs.Counting.{AllBelow}
 use Rattle.mk_pad.specs.declared.term.Term.{Term}
 use Rattle.mk_pad.specs.Polynomial.{IsTerm, IsPolynomial, AllDiffer, with_coefficient, with_term, plus, exponents_sum, reduced, term_product, times, squared}
-use Rattle.mk_pad.proofs.Raised.{reduced-below, zero-product}
+use Rattle.mk_field.proofs.Raised.{zero-product}
+use Rattle.mk_pad.proofs.Raised.{reduced-below}
 
 -- how one term goes into others
 pub with_term-same : (u t : Term) (us : List Term) → u.exponents ≡ t.exponents

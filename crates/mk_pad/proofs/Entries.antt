@@ -4,7 +4,7 @@ use Rattle.std.specs.List.{AllByRecursion}
 use Rattle.std.proofs.lemmas.Bool.{cases_eq, eq-eqb, ne_eqb}
 use Rattle.std.proofs.lemmas.List.{length-replicate, length-set, get_or-map, map-append, drop-drop}
 use Rattle.mk_field.specs.declared.field.FieldId.{FieldId}
-use Rattle.mk_field.specs.Field.{size, product, square}
+use Rattle.mk_field.specs.Field.{size, product, square, raised}
 use Rattle.mk_field.proofs.Sum.{sum-zero_right}
 use Rattle.mk_field.proofs.Product.{product-one_left, product-in_field}
 use Rattle.mk_code.specs.declared.instr.Instr.{Instr}
@@ -15,9 +15,9 @@ use Rattle.mk_code.specs.Trace.{takes, entry, randoms, run}
 use Rattle.mk_code.proofs.Runs.{index-drop}
 use Rattle.mk_code.proofs.Steps.{AllBelow-at}
 use Rattle.mk_pad.specs.declared.term.Term.{Term}
-use Rattle.mk_pad.specs.Polynomial.{raised, monomial_at, value, IsPolynomial}
+use Rattle.mk_pad.specs.Polynomial.{monomial_at, value, IsPolynomial}
 use Rattle.mk_pad.specs.Positions.{variable, constant, polynomial_at, next_polynomial, polynomials_from}
-use Rattle.mk_pad.proofs.Raised.{one-element, product-one_right}
+use Rattle.mk_field.proofs.Raised.{one-element, product-one_right}
 use Rattle.mk_pad.proofs.Combining.{polynomial-nil, polynomial-one, polynomial-plus, polynomial-times, polynomial-squared}
 use Rattle.mk_pad.proofs.Values.{monomial-in_field, value-plus, value-times, value-squared}
 

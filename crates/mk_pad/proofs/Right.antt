@@ -24,7 +24,7 @@ use Rattle.mk_pad.specs.declared.term.Term.{Term}
 use Rattle.mk_pad.specs.Form.{GadgetForm, IsGadget, operands, share_count, position_count}
 use Rattle.mk_pad.specs.Polynomial.{value, IsPolynomial, plus}
 use Rattle.mk_pad.specs.Positions.{variable_count, variable, polynomial_at, next_polynomial, polynomials_from, variables, polynomials_of, polynomials, counts_of, counts}
-use Rattle.mk_pad.specs.Laws.{PlacesLaw}
+use Rattle.mk_pad.specs.Laws.{PositionsLaw}
 use Rattle.mk_pad.specs.Value.{wanted_value, IsRightAt, HasRightValue, HasWrongValue, sum_all, wanted_polynomial, outs_polynomial, HasRightPolynomials}
 use Rattle.mk_pad.proofs.Combining.{polynomial-nil, polynomial-plus, polynomial-times}
 use Rattle.mk_pad.proofs.Values.{value-plus, value-times}
@@ -364,5 +364,5 @@ tests-empty g positions p r same is test =
     subst (λ (ts : List Term). IsTrue r ↔ (ts ≡ [])) whole test
 
 -- the law of a gadget's positions holds
-pub positions_law-holds : (g : GadgetForm) → IsGadget g → PlacesLaw g
+pub positions_law-holds : (g : GadgetForm) → IsGadget g → PositionsLaw g
 positions_law-holds g here = record { fit = polynomials-fit g here; values = λ shares tape first second. polynomials-run g shares tape here first second }

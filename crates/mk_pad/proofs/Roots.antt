@@ -3,11 +3,11 @@
 use Rattle.std.proofs.Common.{◌≡◌, ℕ, zero, suc, ◌<◌, ◌≤◌, nat_eq, if◌then◌else◌, bit_xor, refl, sym, ◌∙◌, ap, arith, inl, inr}
 use Rattle.std.proofs.lemmas.Bool.{cases_eq, eq-eqb, ne_eqb}
 use Rattle.mk_field.specs.declared.field.FieldId.{FieldId}
-use Rattle.mk_field.specs.Field.{size, product}
+use Rattle.mk_field.specs.Field.{size, product, raised}
 use Rattle.mk_field.proofs.Sum.{zero-element, sum-assoc, sum-comm, sum-zero_left, sum-zero_right, sum-in_field, sum-interchange, sum-cancel, sum-cancel_right}
 use Rattle.mk_field.proofs.Product.{product-in_field, product-zero_right, product-sum_left, product-sum_right}
-use Rattle.mk_pad.specs.Polynomial.{raised}
-use Rattle.mk_pad.proofs.Raised.{product-one_right, product-left_comm, raised-in_field, zero-product}
+use Rattle.mk_pad.specs.Polynomial.{}
+use Rattle.mk_field.proofs.Raised.{product-one_right, product-left_comm, raised-in_field, zero-product}
 
 -- c 0 + c 1 a + ... , the first n of them
 unfoldable pub horner : FieldId → ℕ → (ℕ → ℕ) → ℕ → ℕ

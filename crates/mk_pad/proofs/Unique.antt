@@ -5,14 +5,14 @@ use Rattle.std.specs.Str.{bytes_eq}
 use Rattle.std.proofs.lemmas.Bool.{cases_eq, eq-eqb, ne_eqb, cases_Bool}
 use Rattle.std.proofs.lemmas.Slice.Eq.{bytes_eq-Decides}
 use Rattle.mk_field.specs.declared.field.FieldId.{FieldId}
-use Rattle.mk_field.specs.Field.{size, product}
+use Rattle.mk_field.specs.Field.{size, product, raised}
 use Rattle.mk_field.proofs.Sum.{zero-element, sum-assoc, sum-comm, sum-zero_left, sum-zero_right}
 use Rattle.mk_field.proofs.Product.{product-comm, product-assoc, product-in_field}
 use Rattle.mk_code.specs.Counting.{AllBelow, Elements}
 use Rattle.mk_code.proofs.Totals.{Elements-cons}
 use Rattle.mk_pad.specs.declared.term.Term.{Term}
-use Rattle.mk_pad.specs.Polynomial.{raised, monomial_at, term_at, value, coefficient_at, IsTerm, IsPolynomial, AllDiffer, with_coefficient, with_term, plus}
-use Rattle.mk_pad.proofs.Raised.{product-one_right, raised-in_field}
+use Rattle.mk_pad.specs.Polynomial.{monomial_at, term_at, value, coefficient_at, IsTerm, IsPolynomial, AllDiffer, with_coefficient, with_term, plus}
+use Rattle.mk_field.proofs.Raised.{product-one_right, raised-in_field}
 use Rattle.mk_pad.proofs.Combining.{with_term-same, with_term-other, exponents-cases}
 use Rattle.mk_pad.proofs.Values.{monomial-in_field, value-in_field}
 use Rattle.mk_pad.proofs.Roots.{horner, horner-same, horner-sum, horner-zeros, horner-single, all-zero}

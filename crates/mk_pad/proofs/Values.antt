@@ -3,13 +3,14 @@ use Rattle.std.proofs.Common.{◌≡◌, ℕ, ◌+◌, ◌<◌, List, [], ◌∷
 use Rattle.std.specs.List.{AllByRecursion, flat_map}
 use Rattle.std.proofs.lemmas.Bool.{cases_eq, ne_eqb}
 use Rattle.mk_field.specs.declared.field.FieldId.{FieldId}
-use Rattle.mk_field.specs.Field.{size, product, square}
+use Rattle.mk_field.specs.Field.{size, product, square, raised}
 use Rattle.mk_field.proofs.Sum.{zero-element, sum-assoc, sum-comm, sum-zero_left, sum-zero_right, sum-in_field}
 use Rattle.mk_field.proofs.Product.{product-in_field, product-zero_left, product-zero_right, product-one_left, product-sum_left, product-sum_right, square-sum}
 use Rattle.mk_code.specs.Counting.{AllBelow}
 use Rattle.mk_pad.specs.declared.term.Term.{Term}
-use Rattle.mk_pad.specs.Polynomial.{raised, monomial_at, term_at, value, IsTerm, IsPolynomial, with_coefficient, with_term, plus, exponents_sum, term_product, times, squared}
-use Rattle.mk_pad.proofs.Raised.{one-element, product-interchange, raised-in_field, raised-sum, raised-reduced}
+use Rattle.mk_pad.specs.Polynomial.{monomial_at, term_at, value, IsTerm, IsPolynomial, with_coefficient, with_term, plus, exponents_sum, term_product, times, squared}
+use Rattle.mk_field.proofs.Raised.{one-element, product-interchange, raised-in_field, raised-sum}
+use Rattle.mk_pad.proofs.Raised.{raised-reduced}
 use Rattle.mk_pad.proofs.Combining.{with_term-same, with_term-other, exponents-cases, terms-with_term, products-fit, squares-fit}
 
 -- the value of a monomial is an element

@@ -1,14 +1,14 @@
 -- Small gadgets, and their polynomials.
 use Rattle.std.specs.Prelude.{◌≡◌, ℕ, ◌+◌, take, List, [], ◌∷◌, slice_index, refl}
 use Rattle.mk_field.specs.declared.field.FieldId.TheVariants.{Gf2, Gf256}
-use Rattle.mk_field.specs.Field.{sum_bits}
+use Rattle.mk_field.specs.Field.{sum_bits, raised}
 use Rattle.mk_field.specs.Sharing.{field_sum}
 use Rattle.mk_code.specs.declared.instr.Instr.TheVariants as instr
 use Rattle.mk_code.specs.Trace.{randoms, run}
 use Rattle.mk_pad.specs.declared.kind.GadgetKind.TheVariants.{Mul, Refresh}
 use Rattle.mk_pad.specs.declared.term.Term.{Term}
 use Rattle.mk_pad.specs.Form.{GadgetForm, share_count}
-use Rattle.mk_pad.specs.Polynomial.{raised, monomial_at, value, with_term, exponents_sum, plus}
+use Rattle.mk_pad.specs.Polynomial.{monomial_at, value, with_term, exponents_sum, plus}
 use Rattle.mk_pad.specs.Positions.{polynomials_from, polynomials, counts_from, counts}
 use Rattle.mk_pad.specs.Value.{outs_polynomial, wanted_polynomial, wanted_value}
 

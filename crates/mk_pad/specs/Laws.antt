@@ -28,7 +28,7 @@ pub record PolynomialLaws (field : FieldId) (n : ℕ) : Type 0 where
       ↔ ((xs : List ℕ) → Elements (size field) n xs → value field ps xs ≡ value field qs xs)
 
 -- the polynomials of a gadget's positions have as values at any shares and random elements the entries of its run
-pub record PlacesLaw (g : GadgetForm) : Type 0 where
+pub record PositionsLaw (g : GadgetForm) : Type 0 where
   pub fit : AllByRecursion (IsPolynomial g.field (variable_count g)) (polynomials g)
   pub values : (shares tape : List ℕ) → Elements (size g.field) (share_count g) shares → Elements (size g.field) (randoms g.instrs) tape
       → map (λ ps. value g.field ps (shares ++ tape)) (polynomials g) ≡ run g.field [] g.instrs tape shares

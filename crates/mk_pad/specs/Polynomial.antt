@@ -5,14 +5,9 @@ use Rattle.std.specs.Prelude.{◌≢◌, ℕ, zero, suc, ◌+◌, ◌-◌, ◌<�
 use Rattle.std.specs.List.{AllByRecursion, flat_map}
 use Rattle.std.specs.Str.{bytes_eq}
 use Rattle.mk_field.specs.declared.field.FieldId.{FieldId}
-use Rattle.mk_field.specs.Field.{size, product}
+use Rattle.mk_field.specs.Field.{size, product, raised}
 use Rattle.mk_code.specs.Counting.{Elements}
 use Rattle.mk_pad.specs.declared.term.Term.{Term}
-
--- an element raised to an exponent
-unfoldable pub raised : FieldId → ℕ → ℕ → ℕ
-raised field a zero = 1
-raised field a (suc e) = product field a (raised field a e)
 
 -- the reduced exponent that gives the same power, for the sum of two reduced ones
 abbrev pub reduced : FieldId → ℕ → ℕ

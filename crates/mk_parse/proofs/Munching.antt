@@ -9,7 +9,8 @@ use Rattle.std.proofs.lemmas.Bool.{and_parts, or_cases, or_left, or_right, eqb-t
 use Rattle.std.proofs.lemmas.List.{drop_at, take_at, take_rest, append-nil, get_or-map}
 use Rattle.std.proofs.lemmas.List.Sums.{prefix_len-le-length}
 use Rattle.std.proofs.lemmas.List.Elements.{All-from_recursion, All-contains, Contains-append_left, Contains-push_cases}
-use Rattle.mk_ast.specs.Tokens.{is_blank, goes_on, begins_word, hex_value, IsWord, IsNumber, IsElement, IsToken, NothingGoesOn, symbols}
+use Rattle.mk_base.specs.Digits.{hex_value}
+use Rattle.mk_ast.specs.Tokens.{is_blank, goes_on, begins_word, IsWord, IsNumber, IsElement, IsToken, NothingGoesOn, symbols}
 use Rattle.mk_ast.specs.Spells.{NoGapBegins}
 use Rattle.mk_parse.specs.Lexing.{IsOfKind}
 use Rattle.mk_parse.specs.declared.token.Written.{Written}

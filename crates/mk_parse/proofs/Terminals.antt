@@ -7,7 +7,8 @@ use Rattle.std.specs.Str.{all_ascii_digits}
 use Rattle.std.proofs.lemmas.Bool.{and_parts, ltb-true, lt-ltb, false≢true}
 use Rattle.std.proofs.lemmas.Slice.Eq.{bytes_eq-Decides}
 use Rattle.mk_base.specs.declared.Place.{Place}
-use Rattle.mk_ast.specs.Tokens.{Token, begins_word, goes_on, IsWord, IsName, reserved, IsNumber, IsElement, hex_value}
+use Rattle.mk_base.specs.Digits.{hex_value}
+use Rattle.mk_ast.specs.Tokens.{Token, begins_word, goes_on, IsWord, IsName, reserved, IsNumber, IsElement}
 use Rattle.mk_parse.specs.Readers.{starts, given, takes}
 use Rattle.mk_parse.proofs.ReaderLaws.{read, refused}
 use Rattle.mk_parse.specs.Reading.{all_go_on, is_word, is_among, is_name_text, is_name, where_true, name_of, last_below, number_text, number_of, positive, size_of, of_digits, element_text, with_place, element_of, gives}

@@ -18,7 +18,8 @@ use Rattle.mk_ast.specs.declared.tree.Index.TheVariants as index
 use Rattle.mk_ast.specs.declared.tree.Link.{Link}
 use Rattle.mk_ast.specs.declared.TheConstants.{GREATEST_NUMBER}
 use Rattle.mk_ast.specs.declared.tree.Link.TheVariants as link
-use Rattle.mk_ast.specs.Tokens.{Token, begins_word, goes_on, reserved, hex_value}
+use Rattle.mk_base.specs.Digits.{hex_value}
+use Rattle.mk_ast.specs.Tokens.{Token, begins_word, goes_on, reserved}
 use Rattle.mk_ast.specs.Phrases.{several}
 use Rattle.mk_ast.specs.Grammar.{chained, most_brackets}
 use Rattle.mk_parse.specs.Readers.{Reader, says, fails, takes, makes, ◌next◌, past, ended, chosen, perhaps, every, parted}

@@ -1,42 +1,16 @@
 //! What the bytes of a token say.
 
-ghost use Rattle.std.specs.Prelude.{◌≡◌, ℕ, ◌≤◌, ◌↔◌, IfSome, IsTrue, MatchOption, Contains};
-ghost use Rattle.mk_ast.specs.Tokens.{hex_value, reserved, IsElement, IsNumber};
+ghost use Rattle.std.specs.Prelude.{◌≡◌, ℕ, ◌↔◌, IsTrue, MatchOption, Contains};
+ghost use Rattle.mk_ast.specs.Tokens.{reserved, IsElement, IsNumber};
 
 use mk_ast::GREATEST_NUMBER;
-use mk_base::decimal_number;
+use mk_base::{decimal_number, hex_value};
 
 /// The number, of at most `GREATEST_NUMBER`, that this text writes in decimal digits without leading zeros.
 pub(crate) fn number(text: &[u8]) -> Option<u32>
     ensures { MatchOption result ((n : ℕ) → IsNumber n text.now → ⊥) (λ n. IsNumber n text.now) }
 {
     decimal_number(text, GREATEST_NUMBER)
-}
-
-/// The value of a hexadecimal digit of either case.
-fn hex_value(digit: u8) -> Option<u8>
-    ensures value { result ≡ hex_value digit }
-    ensures low { IfSome result (λ value. value ≤ 15) }
-{
-    if digit < b'0' {
-        return None;
-    }
-    if digit < b'0' + 10 {
-        return Some(digit - b'0');
-    }
-    if digit < b'A' {
-        return None;
-    }
-    if digit < b'A' + 6 {
-        return Some(digit - b'A' + 10);
-    }
-    if digit < b'a' {
-        return None;
-    }
-    if digit < b'a' + 6 {
-        return Some(digit - b'a' + 10);
-    }
-    None
 }
 
 /// The element that this text writes as `0x` and two hexadecimal digits.

@@ -15,16 +15,7 @@ use Rattle.mk_place.specs.Marking.{inputs}
 use Rattle.mk_place.proofs.Flow.{Found, found-in}
 use Rattle.mk_place.proofs.Hops.{links_of}
 use Rattle.mk_place.proofs.Reaching.{Agrees, agrees-at, marked-needs, needs-marked}
-
--- what holds in the same cases is the same
-same-cases : (a b : Bool) → (a ≡ true → b ≡ true) → (b ≡ true → a ≡ true) → a ≡ b
-same-cases a b to from = elim (cases_Bool a) [
-  | inl on ↦ on ∙ sym (to on)
-  | inr off ↦ elim (cases_Bool b) [
-    | inl on ↦ from on ∙ sym on
-    | inr also ↦ off ∙ sym also
-  ]
-]
+use Rattle.mk_place.proofs.Standing.{same-answer}
 
 module _ (s : Values) (is : IsValues s) where
   -- the marks of a placed certificate are those of the pass, from the last use to the first
@@ -37,7 +28,7 @@ module _ (s : Values) (is : IsValues s) where
       let needed : (placed.marks u.value u.place ≡ true) ↔ NeedsRefresh (inputs s) (links_of s placed.marks) placed.marks u us =
       subst (λ (c : Claimed). (placed.marks u.value u.place ≡ true) ↔ NeedsRefresh (inputs s) (links (shape_of_values s) c.blocks) placed.marks u us)
       placed.laid (placed.needed front us u split) in (
-        same-cases (placed.marks u.value u.place) (mark_by (inputs s) us u)
+        same-answer (placed.marks u.value u.place) (mark_by (inputs s) us u)
             (λ on. needs-marked s is placed.marks front us u split behind (needed.0 on))
             (λ on. needed.1 (marked-needs s is placed.marks front us u split behind on)),
         behind,
@@ -62,7 +53,7 @@ module _ (s : Values) (is : IsValues s) where
   -- so they have the same marks
   marks-alike : (one other : Claimed) (first : Placed s one) (second : Placed s other) → first.marks ≡ second.marks
   marks-alike one other first second =
-      fun_ext (λ i. fun_ext (λ k. same-cases (first.marks i k) (second.marks i k)
+      fun_ext (λ i. fun_ext (λ k. same-answer (first.marks i k) (second.marks i k)
       (marks-carried one other first second i k) (marks-carried other one second first i k)))
 
 -- and are the same

@@ -3,9 +3,10 @@ use Rattle.std.proofs.Common.{◌≡◌, ◌⊎◌, ℕ, ◌+◌, ◌<◌, true,
 use Rattle.std.specs.List.{Contains}
 use Rattle.std.proofs.lemmas.Bool.{cases_Bool, cases_eq, cond-true, cond-false, and_from, and_left, and_right, eqb-true, eq-eqb, ne_eqb, false≢true}
 use Rattle.std.proofs.lemmas.List.Elements.{Contains-append_right}
+use Rattle.mk_base.proofs.Lists.{Contains-cases}
 use Rattle.mk_ssa.specs.Kinds.{Kind, Public, Linear, Strong}
 use Rattle.mk_rules.specs.declared.uses.OperandPlace.{OperandPlace}
-use Rattle.mk_rules.proofs.Probes.{Contains-cases, Contains-front, Contains-none, Contains-only}
+use Rattle.mk_rules.proofs.Probes.{Contains-front, Contains-none, Contains-only}
 use Rattle.mk_rules.specs.Uses.{Use}
 use Rattle.mk_place.specs.Needs.{added, brought_by, brought, with_use, needs_by, mark_by, marks_by}
 use Rattle.mk_place.proofs.Joining.{and-parts, clash-at, added-left, added-right, added-from}

@@ -3,8 +3,9 @@ use Rattle.std.proofs.Common.{◌≡◌, ◌≢◌, ◌⊎◌, Bool, true, false
 use Rattle.std.specs.List.{Contains, list_any}
 use Rattle.std.proofs.lemmas.Bool.{cases_Bool, cond-true, cond-false, and_from, eqb-true, eq-eqb, ne_eqb}
 use Rattle.std.proofs.lemmas.List.Elements.{Contains-append_left, Contains-push, Contains-push_cases}
+use Rattle.mk_base.proofs.Lists.{Contains-cases}
 use Rattle.mk_rules.specs.declared.uses.OperandPlace.{OperandPlace}
-use Rattle.mk_rules.proofs.Probes.{Contains-more, Contains-cases, Contains-front, Contains-none}
+use Rattle.mk_rules.proofs.Probes.{Contains-more, Contains-front, Contains-none}
 use Rattle.mk_rules.proofs.Noting.{place_of}
 use Rattle.mk_place.specs.Needs.{is_same, is_other, clash, joined, with_place, added}
 

@@ -2,10 +2,11 @@
 use Rattle.std.proofs.Common.{ℕ, suc, ◌+◌, ◌<◌, ◌≤◌, List, [], ◌∷◌, ◌++◌, sym, ap, arith, inl, inr}
 use Rattle.std.specs.List.{Contains}
 use Rattle.std.proofs.lemmas.List.Elements.{Contains-append_right, Contains-append_cases}
+use Rattle.mk_base.proofs.Lists.{Contains-cases}
 use Rattle.mk_ssa.specs.Kinds.{Kind, kind}
 use Rattle.mk_ssa.specs.Values.{Values, IsValues}
 use Rattle.mk_rules.specs.Reaches.{Link, links}
-use Rattle.mk_rules.proofs.Probes.{Contains-cases, Contains-front, Contains-none}
+use Rattle.mk_rules.proofs.Probes.{Contains-front, Contains-none}
 use Rattle.mk_rules.specs.Uses.{Use, uses_by, uses_from}
 use Rattle.mk_rules.proofs.Using.{IsBy, IsUse, by-from, from-is, use-is}
 use Rattle.mk_place.specs.Uses.{shape_of_values, uses}

@@ -40,9 +40,9 @@ fn refreshed(
         Some(v) => {
             let arg = renamed(names, v);
             if fresh {
-                let place = cert.blocks().len() as u32;
+                let block = cert.blocks().len() as u32;
                 cert.push_block(Op::Refresh { arg })?;
-                Ok(Operand::Block(place))
+                Ok(Operand::Block(block))
             } else {
                 Ok(arg)
             }

@@ -1,7 +1,8 @@
 -- Ascending lists of places: the order is one, and the places that there are determine the list.
 use Rattle.std.proofs.Common.{◌≡◌, true, List, [], ◌∷◌, refl, sym, ◌∙◌, ap, inl, inr, arith}
 use Rattle.std.specs.List.{Contains}
-use Rattle.mk_rules.proofs.Probes.{Contains-none, Contains-cases, Contains-front, Contains-more}
+use Rattle.mk_base.proofs.Lists.{Contains-cases}
+use Rattle.mk_rules.proofs.Probes.{Contains-none, Contains-front, Contains-more}
 use Rattle.mk_report.specs.declared.need.ProductPlace.{ProductPlace}
 use Rattle.mk_report.specs.Reached.{is_before, AreAscending}
 

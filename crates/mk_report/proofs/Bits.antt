@@ -7,8 +7,9 @@ use Rattle.std.specs.List.{Contains}
 use Rattle.std.proofs.lemmas.Bool.{cases_Bool, cases_eq, cases_lt, eq-eqb, eqb-true}
 use Rattle.std.proofs.lemmas.List.{length-append, length-take, map-append, take_all, take-append-le, get_or_past}
 use Rattle.std.proofs.lemmas.Nat.Bits.{bit_at-suc, bit_at-zero, bit_at_lowest}
+use Rattle.mk_base.proofs.Lists.{Contains-cases}
 use Rattle.mk_rules.specs.Rows.{HasBit}
-use Rattle.mk_rules.proofs.Probes.{Contains-none, Contains-cases, Contains-front, Contains-more}
+use Rattle.mk_rules.proofs.Probes.{Contains-none, Contains-front, Contains-more}
 use Rattle.mk_report.specs.declared.need.ProductPlace.{ProductPlace}
 use Rattle.mk_report.specs.Rows.{has, bits_between, set_bits}
 

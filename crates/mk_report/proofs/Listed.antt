@@ -3,6 +3,7 @@ use Rattle.std.proofs.Common.{◌≡◌, ℕ, zero, suc, ◌+◌, ◌*◌, ◌/�
 use Rattle.std.specs.List.{Contains}
 use Rattle.std.proofs.lemmas.Bool.{cases_Bool, cases_order}
 use Rattle.std.proofs.lemmas.Option.{get_or_from_slice_get, slice_get_within}
+use Rattle.mk_base.proofs.Lists.{Contains-map, Contains-from_map}
 use Rattle.mk_ssa.specs.declared.Op.{Op}
 use Rattle.mk_ssa.specs.Operators.{Operator, operator}
 use Rattle.mk_ssa.proofs.Lists.{IsSomeAnd-value}
@@ -10,28 +11,12 @@ use Rattle.mk_rules.specs.Shape.{Shape}
 use Rattle.mk_rules.specs.Products.{products_before}
 use Rattle.mk_rules.specs.Rows.{HasBit}
 use Rattle.mk_rules.proofs.Counting.{products-once, products-up}
-use Rattle.mk_rules.proofs.Probes.{Contains-none, Contains-cases, Contains-front, Contains-more}
+use Rattle.mk_rules.proofs.Probes.{Contains-none, Contains-front, Contains-more}
 use Rattle.mk_report.specs.declared.need.ProductPlace.{ProductPlace}
 use Rattle.mk_report.specs.Reached.{AreAscending, ArePlacesOf, IsProduct, ReachesPlace, is_before}
 use Rattle.mk_report.specs.Rows.{AreProducts, HavePlaces, IsBitOf, IsRowOf, bit_of, bits_between, has, place_for, places_in, set_bits}
 use Rattle.mk_report.proofs.Bits.{bit-within, bits-at, bits-from, bits-off, bits-on}
 use Rattle.mk_report.proofs.Stepping.{place_of, reached-two}
-
--- a function's value at an element
-map-in : {X Y : Type 0} (f : X → Y) (xs : List X) (x : X) → Contains xs x → Contains (map f xs) (f x)
-map-in f [] x held = absurd (Contains-none x held)
-map-in f (y ∷ ys) x held = elim (Contains-cases y ys x held) [
-  | inl own ↦ subst (λ (z : _). Contains (f y ∷ map f ys) (f z)) own (Contains-front (f y) (map f ys))
-  | inr rest ↦ Contains-more (f y) (map f ys) (f x) (map-in f ys x rest)
-]
-
--- each of these values is such
-map-from : {X Y : Type 0} (f : X → Y) (xs : List X) (y : Y) → Contains (map f xs) y → (x : X) × Contains xs x × (f x ≡ y)
-map-from f [] y held = absurd (Contains-none y held)
-map-from f (x ∷ xs) y held = elim (Contains-cases (f x) (map f xs) y held) [
-  | inl own ↦ (x, Contains-front x xs, own)
-  | inr rest ↦ let found = map-from f xs y rest in (found.0, Contains-more x xs found.0 found.1, found.2)
-]
 
 -- where the places for the bits ascend, so does the list of them
 listed-ascending : (f : ℕ → ProductPlace) (row : List ℕ) (a n : ℕ) → ((j k : ℕ) → HasBit row j → HasBit row k → j < k → is_before (f j) (f k) ≡ true)
@@ -41,7 +26,7 @@ listed-ascending f row a zero before = tt
 listed-ascending f row a (suc n) before = elim (cases_Bool (has row a)) [
   | inl on ↦ subst (λ (bs : List ℕ). AreAscending (map f bs)) (sym (bits-on row a n on)) (
     λ q held.
-        let found = map-from f (bits_between row (a + 1) n) q held in
+        let found = Contains-from_map f (bits_between row (a + 1) n) q held in
         let later = bits-from row (a + 1) n found.0 found.1 in
         let first = bits-from row a (suc n) a (subst (λ (bs : List ℕ). Contains bs a) (sym (bits-on row a n on)) (Contains-front a (bits_between row (a + 1) n))) in
         ap (is_before (f a)) (sym found.2) ∙ before a found.0 first.1.1 later.1.1 (omega (arith, later.0)),
@@ -110,12 +95,12 @@ module _ (shape : Shape) (blocks : List Op) (products : List ℕ) (all : AreProd
     places-are = record {
       reached = λ p. (
         λ held.
-            let found = map-from (place_for products) (set_bits row) p held in
+            let found = Contains-from_map (place_for products) (set_bits row) p held in
             subst (ReachesPlace shape blocks v) found.2 (found-place found.0 (bits-from row 0 (64 * length row) found.0 found.1).1.1).0,
         λ reaches.
             let set : HasBit row (bit_of blocks p) = (is (bit_of blocks p)).1 (p, reaches, refl) in
             subst (Contains (places_in products row)) (place-back p reaches.0 (reached-two shape blocks v p reaches))
-            (map-in (place_for products) (set_bits row) (bit_of blocks p)
+            (Contains-map (place_for products) (set_bits row) (bit_of blocks p)
             (bits-at row 0 (64 * length row) (bit_of blocks p) (omega arith) (omega (arith, bit-within row (bit_of blocks p) set)) set)),
       );
       ascending = listed-ascending (place_for products) row 0 (64 * length row) (λ j k low high less.

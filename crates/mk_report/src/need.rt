@@ -57,8 +57,8 @@ fn show_word(shown: &mut Need, products: &[u32], row: &[u64], word: usize) -> Re
     requires word { word < length row.now }
     requires small { length row.now < 2 ^ 32 }
     requires products { HavePlaces products.now row.now }
-    requires shown { length shown.old ≤ 8 }
-    ensures { OnOk result (shown.new ≡ take 8 (shown.old
+    requires shown { length shown.old ≤ SHOWN }
+    ensures { OnOk result (shown.new ≡ take SHOWN (shown.old
         ++ map (place_for products.now) (bits_between row.now (64 * word) 64))) }
 {
     for at in 0..64 {
@@ -74,7 +74,7 @@ fn show_word(shown: &mut Need, products: &[u32], row: &[u64], word: usize) -> Re
 fn shown_of(alloc: Global, products: &[u32], row: &[u64]) -> Result<Need, Memory>
     requires small { length row.now < 2 ^ 32 }
     requires products { HavePlaces products.now row.now }
-    ensures { IfOk result (λ shown. shown ≡ take 8 (places_in products.now row.now)) }
+    ensures { IfOk result (λ shown. shown ≡ take SHOWN (places_in products.now row.now)) }
 {
     let mut shown = Items::new(alloc);
     for word in 0..row.len() {

@@ -17,3 +17,9 @@ pub(crate) const CALM: Outside<'static> = Outside {
     writes: &[],
     tells: &[],
 };
+
+/// 4,096 bytes at a time, and no call fails.
+pub(crate) const WIDE: Outside<'static> = Outside {
+    piece: 4096,
+    ..CALM
+};

@@ -57,18 +57,37 @@ pub(crate) fn words_of(alloc: Global, words: &[&str]) -> Result<Words, Memory> {
     Ok(list)
 }
 
-/// Whether the top call does what a row says.
-fn holds(alloc: Global, outside: &Outside, row: &Row) -> Result<bool, Memory> {
-    let words = words_of(alloc, row.words)?;
+/// What the top call answered, and what it wrote and told.
+#[derive(Drop)]
+pub(crate) struct Outcome {
+    pub status: Status,
+    pub out: MemSink,
+    pub err: MemSink,
+}
+
+/// What the top call answers.
+pub(crate) fn answered(
+    alloc: Global,
+    outside: &Outside,
+    words: &[&str],
+    input: &[u8],
+) -> Result<Outcome, Memory> {
+    let words = words_of(alloc, words)?;
     let piece = outside.piece.max(1);
-    let mut src = MemSource::new(alloc, row.input.as_bytes(), piece, outside.reads)?;
+    let mut src = MemSource::new(alloc, input, piece, outside.reads)?;
     let mut out = MemSink::new(alloc, 4096, piece, outside.writes)?;
     let mut err = MemSink::new(alloc, 4096, piece, outside.tells)?;
     let status = mask_main(alloc, &words, &mut src, &mut out, &mut err);
+    Ok(Outcome { status, out, err })
+}
+
+/// Whether the top call does what a row says.
+fn holds(alloc: Global, outside: &Outside, row: &Row) -> Result<bool, Memory> {
+    let given = answered(alloc, outside, row.words, row.input.as_bytes())?;
     Ok(
-        status == row.status
-            && out.taken() == row.out.as_bytes()
-            && err.taken() == row.err.as_bytes(),
+        given.status == row.status
+            && given.out.taken() == row.out.as_bytes()
+            && given.err.taken() == row.err.as_bytes(),
     )
 }
 

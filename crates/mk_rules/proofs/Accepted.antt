@@ -24,11 +24,11 @@ use Rattle.mk_rules.specs.Reaches.{Link, links}
 use Rattle.mk_rules.specs.Privacy.{HaveTemplates, AcceptedIsPrivate}
 use Rattle.mk_rules.proofs.Blocks.{Block}
 use Rattle.mk_rules.proofs.Needs.{strong_or}
-use Rattle.mk_rules.proofs.Standing.{bank, block_reads, banks_with, block_placed, blocks_laid, places_of, is_known, IsBlock, AllBlocks}
+use Rattle.mk_rules.proofs.Standing.{bank, block_reads, banks_with, block_placed, blocks_laid, bank_length, is_known, IsBlock, AllBlocks}
 use Rattle.mk_rules.proofs.Front.{blocks-private}
 use Rattle.mk_rules.proofs.Marks.{link_of, undoubled-single}
 use Rattle.mk_rules.proofs.Asking.{Asking, asking-weak, asking-strong}
-use Rattle.mk_rules.proofs.Operators.{FitsBehind, IsGiven, places_behind, template-behind, strong-publics, strong-two, public-unshared, public-known, wired-operands, numbers-there}
+use Rattle.mk_rules.proofs.Operators.{FitsBehind, IsGiven, reads_length, template-behind, strong-publics, strong-two, public-unshared, public-known, wired-operands, numbers-there}
 
 -- whether the block with this number is public
 unfoldable pub public_at : List Op → ℕ → Bool
@@ -151,13 +151,13 @@ module _ (shape : Shape) (product refresh : Gadget) where
       let v : ℕ = shape.secrets + shape.publics + length before in
       let known : ℕ → Bool = known_of shape (before ++ op ∷ ops) in
       let asking : operator_asks op = asking-of op given in
-      let behind : FitsBehind shape.field shape.maps (places_behind n op) (places_of n (is_known (kind op))) (template n product refresh op) =
+      let behind : FitsBehind shape.field shape.maps (reads_length n op) (bank_length n (is_known (kind op))) (template n product refresh op) =
       template-behind shape product refresh before op wired given in
       let operands : AllByRecursion (IsSharedThere shape before) (shared_operands op) × AllByRecursion (IsPublicThere shape before) (public_operands op) =
       wired-operands shape before op wired in
       let shared : length (map (value_number shape) (shared_operands op)) ≡ length (shared_operands op) = length-map (shared_operands op) (value_number shape) in
       let publics : length (map (value_number shape) (public_operands op)) ≡ length (public_operands op) = length-map (public_operands op) (value_number shape) in
-      let places : places_behind n op ≡ n * length (map (value_number shape) (shared_operands op)) + length (map (value_number shape) (public_operands op)) =
+      let places : reads_length n op ≡ n * length (map (value_number shape) (shared_operands op)) + length (map (value_number shape) (public_operands op)) =
       ap (λ (m : ℕ). n * m + length (public_operands op)) (sym shared)
       ∙ ap (λ (p : ℕ). n * length (map (value_number shape) (shared_operands op)) + p) (sym publics) in
       record {

@@ -21,7 +21,7 @@ use Rattle.mk_gadget.specs.Steady.{block_ways, DependsAt}
 use Rattle.mk_gadget.specs.PlacedLaw.{placed_view}
 use Rattle.mk_gadget.proofs.Placed.{PlacedLaw-holds}
 use Rattle.mk_gadget.proofs.Steady.{share-inside}
-use Rattle.mk_rules.proofs.Probes.{AllBelow-from, Contains-none, Contains-cases, Contains-first, Contains-more, inside, behind, inside-below, inside-behind}
+use Rattle.mk_rules.proofs.Probes.{AllBelow-from, Contains-none, Contains-first, Contains-more, inside, behind, inside-below, inside-behind}
 use Rattle.mk_rules.proofs.Blocks.{Block, block_len, IsHit, only, need, IsSingle, AllAskFew}
 use Rattle.mk_rules.proofs.Needs.{need-few, need-below, need-asked, need-passed}
 use Rattle.mk_rules.proofs.Views.{observation-append, observation-below, Contains-at, flat-at, flat-same}
@@ -70,14 +70,6 @@ pub run-before : (field : FieldId) (maps : List AddMap) (is : List Instr) (tape 
 run-before field maps is tape entries p before =
     let behind : (more : List ℕ) × (run field maps is tape entries ≡ entries ++ more) = run-behind field maps is tape entries in
     ap (λ (l : List ℕ). slice_index l p) behind.1 ∙ get_or_append_left entries behind.0 0 p before
-
--- an element's image is held by the list of images
-pub Contains-image : (f : ℕ → ℕ) (xs : List ℕ) (x p : ℕ) → Contains xs x → f x ≡ p → Contains (map f xs) p
-Contains-image f [] x p held at = absurd (Contains-none x held)
-Contains-image f (y ∷ ys) x p held at = elim (Contains-cases y ys x held) [
-  | inl same ↦ Contains-first (f y) (map f ys) p (ap f same ∙ at)
-  | inr more ↦ Contains-more (f y) (map f ys) p (Contains-image f ys x p more at)
-]
 
 module _ (field : FieldId) (maps : List AddMap) (n : ℕ) (known : ℕ → Bool) (probes : List ℕ) (v base : ℕ) (banks : List (List ℕ))
     (b : Block) (bs : List Block) (u w : List ℕ)

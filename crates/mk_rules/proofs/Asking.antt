@@ -3,13 +3,14 @@ use Rattle.std.proofs.Common.{◌≡◌, ◌≢◌, ℕ, ◌+◌, ◌<◌, ◌�
 use Rattle.std.specs.List.{Contains}
 use Rattle.std.proofs.lemmas.Bool.{cases_lt, lt-ltb, le-ltb}
 use Rattle.std.proofs.lemmas.List.Elements.{Contains-append_left, Contains-append_right, Contains-append_cases}
+use Rattle.mk_base.proofs.Lists.{Contains-cases}
 use Rattle.mk_field.specs.declared.field.FieldId.{FieldId}
 use Rattle.mk_field.specs.declared.map.AddMap.{AddMap}
 use Rattle.mk_code.specs.Counting.{AllBelow}
 use Rattle.mk_ssa.specs.Kinds.{Kind, Strong}
 use Rattle.mk_gadget.specs.Gadget.{Gadget}
 use Rattle.mk_gadget.specs.Steady.{DependsAt, IsSteady, IsStrong}
-use Rattle.mk_rules.proofs.Probes.{Contains-none, Contains-cases, Contains-first, Contains-more, AllBelow-held}
+use Rattle.mk_rules.proofs.Probes.{Contains-none, Contains-first, Contains-more, AllBelow-held}
 
 -- those of the numbers that are below n
 unfoldable pub kept_below : ℕ → List ℕ → List ℕ

@@ -7,6 +7,7 @@ use Rattle.std.proofs.lemmas.List.{length-append, take_at, drop_at, get_or_appen
 use Rattle.std.proofs.lemmas.List.Elements.{Contains-append_left, Contains-append_right}
 use Rattle.std.proofs.lemmas.List.FromFn.{length-range_with_len, get_or-range_with_len, length-map-range_with_len, get_or-map-range_with_len}
 use Rattle.std.proofs.Math.Nat.{mul-le-mul_right}
+use Rattle.mk_base.proofs.Lists.{Contains-cases}
 use Rattle.mk_field.specs.Field.{size}
 use Rattle.mk_field.specs.Sharing.{encodings}
 use Rattle.mk_code.specs.declared.instr.Instr.{Instr}
@@ -21,10 +22,10 @@ use Rattle.mk_code.proofs.LeftOut.{IsLeftOut, left_out}
 use Rattle.mk_gadget.proofs.Ranges.{AllBelow-range}
 use Rattle.mk_rules.specs.Shape.{Shape, shape_of}
 use Rattle.mk_rules.specs.Tiles.{input_banks, first_position}
-use Rattle.mk_rules.proofs.Probes.{Contains-none, Contains-cases, inside, inside-held, inside-behind, behind-few}
+use Rattle.mk_rules.proofs.Probes.{Contains-none, inside, inside-held, inside-behind, behind-few}
 use Rattle.mk_rules.proofs.Blocks.{Block, only, need, AllAskFew}
 use Rattle.mk_rules.proofs.Needs.{need-few, need-below}
-use Rattle.mk_rules.proofs.Standing.{bank, blocks_laid, places_of, AllBlocks, AllBlocks-few, AllSingle, AreBanks}
+use Rattle.mk_rules.proofs.Standing.{bank, blocks_laid, bank_length, AllBlocks, AllBlocks-few, AllSingle, AreBanks}
 use Rattle.mk_rules.proofs.Agreeing.{Agree}
 use Rattle.mk_rules.proofs.Suffix.{blocks-even}
 
@@ -86,8 +87,8 @@ input-banks shape known inputs =
       );
       long = λ x below. elim (cases_lt x shape.secrets) [
         | inl secret ↦
-            ap length (secret-bank shape x secret) ∙ length-range_with_len (x * n) n ∙ ap (places_of n) (sym (inputs.secrets x secret))
-        | inr late ↦ ap length (public-bank shape x late below) ∙ ap (places_of n) (sym (inputs.publics x late below))
+            ap length (secret-bank shape x secret) ∙ length-range_with_len (x * n) n ∙ ap (bank_length n) (sym (inputs.secrets x secret))
+        | inr late ↦ ap length (public-bank shape x late below) ∙ ap (bank_length n) (sym (inputs.publics x late below))
       ];
       below = λ x below. elim (cases_lt x shape.secrets) [
         | inl secret ↦

@@ -15,8 +15,8 @@ use Rattle.mk_gadget.specs.Template.{template}
 use Rattle.mk_rules.specs.Shape.{Shape}
 use Rattle.mk_rules.specs.Tiles.{value_number, input_banks, reads, laid, laid_banks, first_position, banks_of}
 use Rattle.mk_rules.specs.Wired.{IsSharedThere, AllWired, Wired}
-use Rattle.mk_rules.proofs.Standing.{places_of, is_known}
-use Rattle.mk_rules.proofs.Operators.{IsGiven, FitsBehind, places_behind, template-behind, public-known}
+use Rattle.mk_rules.proofs.Standing.{bank_length, is_known}
+use Rattle.mk_rules.proofs.Operators.{IsGiven, FitsBehind, reads_length, template-behind, public-known}
 
 module _ (shape : Shape) (product refresh : Gadget) where
   -- the instructions of some blocks and then of others
@@ -193,13 +193,13 @@ module _ (shape : Shape) (product refresh : Gadget) where
   blocks-long before banks base (op ∷ ops) b wired given =
       let n : ℕ = shape.order + 1 in
       let gadget : Gadget = template n product refresh op in
-      let behind : FitsBehind shape.field shape.maps (places_behind n op) (places_of n (is_known (kind op))) gadget =
+      let behind : FitsBehind shape.field shape.maps (reads_length n op) (bank_length n (is_known (kind op))) gadget =
       template-behind shape product refresh before op wired.0 (given op) in
       let last : List ℕ = placed_outs (reads shape banks op) base gadget in
       subst (λ (bs : List Op). AreLong shape bs (laid_banks shape product refresh (banks ++ last ∷ []) (base + length gadget.instrs) ops)) (append_assoc before (op ∷ []) ops)
       (blocks-long (before ++ op ∷ []) (banks ++ last ∷ []) (base + length gadget.instrs) ops
       (AreLong-more shape before banks op last b
-      (λ shared. length-map gadget.outs (placement (reads shape banks op) base) ∙ behind.count ∙ ap (places_of n) (sym (public-known op) ∙ shared)))
+      (λ shared. length-map gadget.outs (placement (reads shape banks op) base) ∙ behind.count ∙ ap (bank_length n) (sym (public-known op) ∙ shared)))
       wired.1 given)
 
   -- the bank of a shared value that is there has n places

@@ -5,6 +5,7 @@ use Rattle.std.specs.List.{range_with_len, Contains, AllByRecursion}
 use Rattle.std.proofs.lemmas.List.{length-replicate}
 use Rattle.std.proofs.lemmas.List.FromFn.{length-range_with_len, length-map-range_with_len}
 use Rattle.std.proofs.Math.Dec.{eqb-suc-zero}
+use Rattle.mk_base.proofs.Lists.{Contains-cases}
 use Rattle.mk_field.specs.declared.field.FieldId.{FieldId}
 use Rattle.mk_field.specs.declared.map.AddMap.{AddMap}
 use Rattle.mk_code.specs.declared.instr.Instr.{Instr}
@@ -23,8 +24,8 @@ use Rattle.mk_rules.specs.Shape.{Shape}
 use Rattle.mk_rules.specs.Tiles.{value_number}
 use Rattle.mk_rules.specs.Wired.{IsSharedThere, IsPublicThere, IsWired}
 use Rattle.mk_rules.specs.Privacy.{IsTemplate}
-use Rattle.mk_rules.proofs.Probes.{Contains-none, Contains-cases}
-use Rattle.mk_rules.proofs.Standing.{places_of, is_known}
+use Rattle.mk_rules.proofs.Probes.{Contains-none}
+use Rattle.mk_rules.proofs.Standing.{bank_length, is_known}
 
 -- a gadget behind some places of operands: its instructions fit there, and its out bank has this many places,
 -- each of them there
@@ -103,8 +104,8 @@ given-behind field maps n m places gadget at given = record {
 }
 
 -- how many places the operands of an operator have
-abbrev pub places_behind : ℕ → Op → ℕ
-places_behind n op = n * length (shared_operands op) + length (public_operands op)
+abbrev pub reads_length : ℕ → Op → ℕ
+reads_length n op = n * length (shared_operands op) + length (public_operands op)
 
 -- an operator that is strong has a gadget that may stand for it
 abbrev pub IsGiven : Shape → Gadget → Gadget → Op → Type 0
@@ -114,41 +115,41 @@ IsGiven shape product refresh op =
 module _ (shape : Shape) (product refresh : Gadget) where
   -- the template of a wired operator fits behind its operands
   pub template-behind : (before : List Op) (op : Op) → IsWired shape before op → IsGiven shape product refresh op
-      → FitsBehind shape.field shape.maps (places_behind (shape.order + 1) op) (places_of (shape.order + 1) (is_known (kind op))) (template (shape.order + 1) product refresh op)
+      → FitsBehind shape.field shape.maps (reads_length (shape.order + 1) op) (bank_length (shape.order + 1) (is_known (kind op))) (template (shape.order + 1) product refresh op)
   template-behind before (Const value) wired given =
-      single-behind shape.field shape.maps 0 (places_behind (shape.order + 1) (Const value)) (instr.Const value) (omega arith) wired
+      single-behind shape.field shape.maps 0 (reads_length (shape.order + 1) (Const value)) (instr.Const value) (omega arith) wired
   template-behind before (PubAdd left right) wired given =
-      single-behind shape.field shape.maps 2 (places_behind (shape.order + 1) (PubAdd left right)) (instr.Add 0 1) (omega arith) (omega arith, omega arith)
+      single-behind shape.field shape.maps 2 (reads_length (shape.order + 1) (PubAdd left right)) (instr.Add 0 1) (omega arith) (omega arith, omega arith)
   template-behind before (PubMul left right) wired given =
-      single-behind shape.field shape.maps 2 (places_behind (shape.order + 1) (PubMul left right)) (instr.Mul 0 1) (omega arith) (omega arith, omega arith)
+      single-behind shape.field shape.maps 2 (reads_length (shape.order + 1) (PubMul left right)) (instr.Mul 0 1) (omega arith) (omega arith, omega arith)
   template-behind before (PubSq arg) wired given =
-      single-behind shape.field shape.maps 1 (places_behind (shape.order + 1) (PubSq arg)) (instr.Sq 0) (omega arith) (omega arith)
+      single-behind shape.field shape.maps 1 (reads_length (shape.order + 1) (PubSq arg)) (instr.Sq 0) (omega arith) (omega arith)
   template-behind before (PubMap k arg) wired given =
-      single-behind shape.field shape.maps 1 (places_behind (shape.order + 1) (PubMap k arg)) (instr.Map k 0) (omega arith) (wired.0, omega arith)
+      single-behind shape.field shape.maps 1 (reads_length (shape.order + 1) (PubMap k arg)) (instr.Map k 0) (omega arith) (wired.0, omega arith)
   template-behind before (Lift arg) wired given =
-      lift-behind shape.field shape.maps (shape.order + 1) (places_behind (shape.order + 1) (Lift arg)) (omega arith) (omega arith)
+      lift-behind shape.field shape.maps (shape.order + 1) (reads_length (shape.order + 1) (Lift arg)) (omega arith) (omega arith)
   template-behind before (Add left right) wired given =
       let n : ℕ = shape.order + 1 in
-      rows-behind shape.field shape.maps n (2 * n) (places_behind n (Add left right)) (λ i. instr.Add i (n + i)) (omega arith)
+      rows-behind shape.field shape.maps n (2 * n) (reads_length n (Add left right)) (λ i. instr.Add i (n + i)) (omega arith)
       (λ i below. (omega (arith, below), omega (arith, below)))
   template-behind before (AddPub left right) wired given =
       let n : ℕ = shape.order + 1 in
-      rows-behind shape.field shape.maps n (n + 1) (places_behind n (AddPub left right)) (λ i. if nat_eq i 0 then instr.Add 0 n else instr.Copy i) (omega arith)
+      rows-behind shape.field shape.maps n (n + 1) (reads_length n (AddPub left right)) (λ i. if nat_eq i 0 then instr.Add 0 n else instr.Copy i) (omega arith)
       (λ i below. public_addition-row shape.field (length shape.maps) n i below)
   template-behind before (Scale left right) wired given =
       let n : ℕ = shape.order + 1 in
-      rows-behind shape.field shape.maps n (n + 1) (places_behind n (Scale left right)) (λ i. instr.Mul i n) (omega arith)
+      rows-behind shape.field shape.maps n (n + 1) (reads_length n (Scale left right)) (λ i. instr.Mul i n) (omega arith)
       (λ i below. (omega (arith, below), omega arith))
   template-behind before (Sq arg) wired given =
       let n : ℕ = shape.order + 1 in
-      rows-behind shape.field shape.maps n n (places_behind n (Sq arg)) (λ i. instr.Sq i) (omega arith) (λ i below. below)
+      rows-behind shape.field shape.maps n n (reads_length n (Sq arg)) (λ i. instr.Sq i) (omega arith) (λ i below. below)
   template-behind before (Map k arg) wired given =
       let n : ℕ = shape.order + 1 in
-      rows-behind shape.field shape.maps n n (places_behind n (Map k arg)) (λ i. instr.Map k i) (omega arith) (λ i below. (wired.0, below))
+      rows-behind shape.field shape.maps n n (reads_length n (Map k arg)) (λ i. instr.Map k i) (omega arith) (λ i below. (wired.0, below))
   template-behind before (Mul left right) wired given =
-      given-behind shape.field shape.maps (shape.order + 1) 2 (places_behind (shape.order + 1) (Mul left right)) product (omega arith) (given refl)
+      given-behind shape.field shape.maps (shape.order + 1) 2 (reads_length (shape.order + 1) (Mul left right)) product (omega arith) (given refl)
   template-behind before (Refresh arg) wired given =
-      given-behind shape.field shape.maps (shape.order + 1) 1 (places_behind (shape.order + 1) (Refresh arg)) refresh (omega arith) (given refl)
+      given-behind shape.field shape.maps (shape.order + 1) 1 (reads_length (shape.order + 1) (Refresh arg)) refresh (omega arith) (given refl)
 
 -- of strong operators none has a public operand
 pub strong-publics : (op : Op) → kind op ≡ Strong → public_operands op ≡ []

@@ -8,6 +8,7 @@ use Rattle.mk_field.specs.declared.field.FieldId.{FieldId}
 use Rattle.mk_field.specs.declared.field.FieldId.TheVariants.{Gf2, Gf256}
 use Rattle.mk_field.specs.Field.{size}
 use Rattle.mk_field.specs.Maps.{MapFits}
+use Rattle.mk_field.proofs.Raised.{element-byte}
 use Rattle.mk_code.specs.Listing.{Listing, IsListing}
 use Rattle.mk_ssa.specs.declared.Operand.{Operand}
 use Rattle.mk_ssa.specs.declared.Operand.TheVariants.{Secret, Public, Block}
@@ -22,11 +23,6 @@ use Rattle.mk_rules.specs.Claimed.{Claimed}
 use Rattle.mk_rules.specs.Wired.{IsSharedThere, IsPublicThere, IsWired, AllWired}
 use Rattle.mk_rules.specs.Accepts.{IsAccepted}
 use Rattle.mk_rules.specs.Pairs.{IsPair}
-
--- an element is a byte
-size-bytes : (field : FieldId) (value : ℕ) → value < size field → value < 256
-size-bytes Gf2 value below = omega (arith, below)
-size-bytes Gf256 value below = below
 
 -- over few inputs and maps
 module _ (shape : Shape) (few : (shape.secrets ≤ MOST_INPUTS) × (shape.publics ≤ MOST_INPUTS) × (length shape.maps ≤ MOST_MAPS)) where
@@ -48,7 +44,7 @@ module _ (shape : Shape) (few : (shape.secrets ≤ MOST_INPUTS) × (shape.public
 
   -- a wired operator has numbers of 32 bits
   wired-fits : (before : List Op) (op : Op) → length before ≤ MOST_BLOCKS → IsWired shape before op → OpFits op
-  wired-fits before (Const value) count wired = size-bytes shape.field value wired
+  wired-fits before (Const value) count wired = element-byte shape.field value wired
   wired-fits before (PubAdd left right) count wired = (public-fits before left count wired.0, public-fits before right count wired.1)
   wired-fits before (PubMul left right) count wired = (public-fits before left count wired.0, public-fits before right count wired.1)
   wired-fits before (PubSq arg) count wired = public-fits before arg count wired

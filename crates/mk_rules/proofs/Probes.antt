@@ -3,12 +3,8 @@ use Rattle.std.proofs.Common.{◌≡◌, ◌⊎◌, ℕ, zero, suc, ◌+◌, ◌
 use Rattle.std.specs.List.{Contains}
 use Rattle.std.proofs.lemmas.Bool.{cases_lt, lt-ltb, le-ltb}
 use Rattle.std.proofs.lemmas.List.Elements.{Contains-append_right}
+use Rattle.mk_base.proofs.Lists.{Contains-cases}
 use Rattle.mk_code.specs.Counting.{AllBelow}
-
--- an element of a list of one more is the first or one of the others
-pub Contains-cases : {X : Type 0} (x : X) (xs : List X) (y : X) → Contains (x ∷ xs) y → (x ≡ y) ⊎ Contains xs y
-Contains-cases x xs y (zero, inside, here) = inl here
-Contains-cases x xs y (suc k, inside, here) = inr (k, omega (arith, inside), here)
 
 -- no list without elements has one
 pub Contains-none : {X : Type 0} (y : X) → Contains [] y → ⊥

@@ -43,9 +43,9 @@ blocks_laid banks base [] = []
 blocks_laid banks base (b ∷ bs) = block_placed banks base b ++ blocks_laid (banks_with banks base b) (base + block_len b) bs
 
 -- how many places a value has, if it is public or else
-abbrev pub places_of : ℕ → Bool → ℕ
-places_of n true = 1
-places_of n false = n
+abbrev pub bank_length : ℕ → Bool → ℕ
+bank_length n true = 1
+bank_length n false = n
 
 -- whether blocks of this kind are public
 abbrev pub is_known : Kind → Bool
@@ -65,7 +65,7 @@ pub record IsBlock (field : FieldId) (maps : List AddMap) (n : ℕ) (known : ℕ
   pub two : b.kind ≡ Strong → length b.shared ≤ 2
   pub fit : AllFit field (length maps) (n * length b.shared + length b.publics) b.gadget.instrs
   pub within : AllBelow (n * length b.shared + length b.publics + block_len b) b.gadget.outs
-  pub count : length b.gadget.outs ≡ places_of n (is_known b.kind)
+  pub count : length b.gadget.outs ≡ bank_length n (is_known b.kind)
   pub weak : b.kind ≢ Strong → (probes outs : List ℕ) → AllBelow (block_len b) probes → AllBelow n outs
       → DependsAt field maps n (length b.shared) (length b.publics) b.gadget probes outs (λ k. b.asks probes outs k ++ outs)
   pub strong : b.kind ≡ Strong → (probes outs : List ℕ) → AllBelow (block_len b) probes → AllBelow n outs → length probes + length outs < n
@@ -91,7 +91,7 @@ AllSingle v (b ∷ bs) = ((x : ℕ) → x < v → IsSingle (only x) v (b ∷ bs)
 -- the banks of the values below v, all of them before the place `base`
 pub record AreBanks (n : ℕ) (known : ℕ → Bool) (v base : ℕ) (banks : List (List ℕ)) : Type 0 where
   pub count : length banks ≡ v
-  pub long : (x : ℕ) → x < v → length (bank banks x) ≡ places_of n (known x)
+  pub long : (x : ℕ) → x < v → length (bank banks x) ≡ bank_length n (known x)
   pub below : (x : ℕ) → x < v → AllBelow base (bank banks x)
 
 -- numbers below some are below more
@@ -114,13 +114,13 @@ module _ (field : FieldId) (maps : List AddMap) (n : ℕ) (known : ℕ → Bool)
   pub shared-long : (x : ℕ) → Contains b.shared x → length (bank banks x) ≡ n
   shared-long x held =
       let there : (x < v) × (known x ≡ false) = good.shared x held in
-      banked.long x there.0 ∙ ap (places_of n) there.1
+      banked.long x there.0 ∙ ap (bank_length n) there.1
 
   -- those of its public operands have one
   pub publics-long : (x : ℕ) → Contains b.publics x → length (bank banks x) ≡ 1
   publics-long x held =
       let there : (x < v) × (known x ≡ true) = good.publics x held in
-      banked.long x there.0 ∙ ap (places_of n) there.1
+      banked.long x there.0 ∙ ap (bank_length n) there.1
 
   -- how many places of shared operands a block reads
   pub length-shared : length (flat_map (bank banks) b.shared) ≡ n * length b.shared
@@ -150,8 +150,8 @@ module _ (field : FieldId) (maps : List AddMap) (n : ℕ) (known : ℕ → Bool)
   reads-within = subst (λ (m : ℕ). AllBelow (m + block_len b) b.gadget.outs) (sym length-reads) good.within
 
   -- as many places as a value of its kind has
-  pub length-outs : length (block_outs banks base b) ≡ places_of n (known v)
-  length-outs = length-map b.gadget.outs (placement (block_reads banks b) base) ∙ good.count ∙ ap (places_of n) (sym good.own)
+  pub length-outs : length (block_outs banks base b) ≡ bank_length n (known v)
+  length-outs = length-map b.gadget.outs (placement (block_reads banks b) base) ∙ good.count ∙ ap (bank_length n) (sym good.own)
 
 -- so do those of its out bank
 outs-below : (reads : List ℕ) (base len : ℕ) (outs : List ℕ) → AllBelow base reads → AllBelow (length reads + len) outs
@@ -175,7 +175,7 @@ AreBanks-next field maps n known v base banks b banked good =
         | inr late ↦
             let last : v ≡ x = omega (arith, below, late) in
             ap length (bank-next banks outs x (banked.count ∙ last))
-            ∙ length-outs field maps n known v base banks b banked good ∙ ap (λ (y : ℕ). places_of n (known y)) last
+            ∙ length-outs field maps n known v base banks b banked good ∙ ap (λ (y : ℕ). bank_length n (known y)) last
       ];
       below = λ x below. elim (cases_lt x v) [
         | inl before ↦

@@ -3,6 +3,7 @@ use Rattle.std.proofs.Common.{◌≡◌, ℕ, ◌+◌, ◌-◌, ◌*◌, ◌<◌
 use Rattle.std.specs.List.{Contains}
 use Rattle.std.proofs.lemmas.Bool.{cases_lt}
 use Rattle.std.proofs.lemmas.List.{length-map, get_or_past}
+use Rattle.mk_base.proofs.Lists.{Contains-map}
 use Rattle.mk_field.specs.declared.field.FieldId.{FieldId}
 use Rattle.mk_field.specs.declared.map.AddMap.{AddMap}
 use Rattle.mk_field.specs.Field.{size}
@@ -23,8 +24,8 @@ use Rattle.mk_rules.proofs.Views.{observation-same, observation-seen, same-parts
 use Rattle.mk_code.proofs.Observations.{length-observation, observation-at}
 use Rattle.mk_rules.proofs.Values.{placed-elements}
 use Rattle.mk_code.specs.Listing.{AreElementMaps}
-use Rattle.mk_rules.proofs.Standing.{bank, block_reads, block_outs, banks_with, block_placed, blocks_laid, places_of, is_known, IsBlock, AllBlocks, AllBlocks-few, AllSingle, AreBanks, AreBanks-next, bank-before, bank-next, length-outs}
-use Rattle.mk_rules.proofs.Agreeing.{Agree, looked_at, run-before, Contains-image, block-even}
+use Rattle.mk_rules.proofs.Standing.{bank, block_reads, block_outs, banks_with, block_placed, blocks_laid, bank_length, is_known, IsBlock, AllBlocks, AllBlocks-few, AllSingle, AreBanks, AreBanks-next, bank-before, bank-next, length-outs}
+use Rattle.mk_rules.proofs.Agreeing.{Agree, looked_at, run-before, block-even}
 
 -- of a public block's value its one share is looked at
 looked-public : (kind : Kind) (needed : List ℕ) → is_known kind ≡ true → looked_at kind needed ≡ 0 ∷ []
@@ -79,7 +80,8 @@ module _ (field : FieldId) (maps : List AddMap) (n : ℕ) (known : ℕ → Bool)
     | inr late ↦
         let at : base + (p - base) ≡ p = omega arith in
         observation-seen (map (λ k. base + k) (inside base (block_len b) probes)) first second p view-parts.0
-        (Contains-image (λ k. base + k) (inside base (block_len b) probes) (p - base) p (inside-held base (block_len b) probes p held late below) at)
+        (subst (λ (q : ℕ). Contains (map (λ k. base + k) (inside base (block_len b) probes)) q) at
+        (Contains-map (λ k. base + k) (inside base (block_len b) probes) (p - base) (inside-held base (block_len b) probes p held late below)))
   ]
 
   -- a share of an earlier value
@@ -96,7 +98,7 @@ module _ (field : FieldId) (maps : List AddMap) (n : ℕ) (known : ℕ → Bool)
       ∙ ap (λ (l : List ℕ). slice_index second (slice_index l i)) (sym stays)
 
   -- a share of the block's value
-  share-next : (x i : ℕ) → v ≡ x → i < places_of n (known v) → Contains looked i
+  share-next : (x i : ℕ) → v ≡ x → i < bank_length n (known v) → Contains looked i
       → slice_index first (slice_index (bank (banks_with banks base b) x) i) ≡ slice_index second (slice_index (bank (banks_with banks base b) x) i)
   share-next x i last inside_bank held =
       let outs : List ℕ = block_outs banks base b in
@@ -114,17 +116,17 @@ module _ (field : FieldId) (maps : List AddMap) (n : ℕ) (known : ℕ → Bool)
     probed = next-probed;
     publics = λ x below public. elim (cases_lt x v) [
       | inl before ↦
-          share-before x 0 before (omega (arith, banked.long x before, ap (places_of n) public)) (agree.publics x before public)
+          share-before x 0 before (omega (arith, banked.long x before, ap (bank_length n) public)) (agree.publics x before public)
       | inr late ↦
           let last : v ≡ x = omega (arith, below, late) in
           let own : known v ≡ true = ap known last ∙ public in
           let all : looked ≡ 0 ∷ [] = looked-public b.kind (need probes (only v) (base + block_len b) (v + 1) bs) (sym good.own ∙ own) in
-          share-next x 0 last (omega (arith, ap (places_of n) own)) (subst (λ (l : List ℕ). Contains l 0) (sym all) (Contains-first 0 [] 0 refl))
+          share-next x 0 last (omega (arith, ap (bank_length n) own)) (subst (λ (l : List ℕ). Contains l 0) (sym all) (Contains-first 0 [] 0 refl))
     ];
     needed = λ x i below shared held. elim (cases_lt x v) [
       | inl before ↦
           let small : i < n = need-below n probes (only x) (base + block_len b) (v + 1) bs i few held in
-          share-before x i before (omega (arith, small, banked.long x before, ap (places_of n) shared))
+          share-before x i before (omega (arith, small, banked.long x before, ap (bank_length n) shared))
           (agree.needed x i before shared (need-later n probes base v b bs good.asking few x (single x before) i before held))
       | inr late ↦
           let last : v ≡ x = omega (arith, below, late) in
@@ -133,7 +135,7 @@ module _ (field : FieldId) (maps : List AddMap) (n : ℕ) (known : ℕ → Bool)
           let mine : Contains wanted i = subst (λ (y : ℕ). Contains (need probes (only y) (base + block_len b) (v + 1) bs) i) (sym last) held in
           let small : i < n = need-below n probes (only v) (base + block_len b) (v + 1) bs i few mine in
           let all : looked ≡ wanted = looked-shared b.kind wanted (sym good.own ∙ own) in
-          share-next x i last (omega (arith, small, ap (places_of n) own)) (subst (λ (l : List ℕ). Contains l i) (sym all) mine)
+          share-next x i last (omega (arith, small, ap (bank_length n) own)) (subst (λ (l : List ℕ). Contains l i) (sym all) mine)
     ];
   }
 

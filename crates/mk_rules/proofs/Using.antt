@@ -4,6 +4,7 @@ use Rattle.std.specs.List.{Contains}
 use Rattle.std.proofs.lemmas.Bool.{cases_eq}
 use Rattle.std.proofs.lemmas.List.Elements.{Contains-append_left, Contains-append_right, Contains-append_cases, Contains-push, Contains-push_cases}
 use Rattle.std.proofs.lemmas.Option.{same_Some}
+use Rattle.mk_base.proofs.Lists.{Contains-cases}
 use Rattle.mk_ssa.specs.declared.Op.{Op}
 use Rattle.mk_ssa.specs.Kinds.{Kind, kind}
 use Rattle.mk_rules.specs.declared.uses.OperandPlace.{OperandPlace}
@@ -11,7 +12,7 @@ use Rattle.mk_rules.specs.Shape.{Shape}
 use Rattle.mk_rules.specs.Reaches.{Link, links}
 use Rattle.mk_rules.specs.Uses.{Use, last_first, place_of_use, shared_numbers, uses_behind, uses_by, uses_from}
 use Rattle.mk_rules.proofs.Doubled.{link_of, links-at, links-from}
-use Rattle.mk_rules.proofs.Probes.{Contains-none, Contains-cases, Contains-front, Contains-more}
+use Rattle.mk_rules.proofs.Probes.{Contains-none, Contains-front, Contains-more}
 use Rattle.mk_rules.proofs.Noting.{noted-own, noted-other, use_of}
 
 -- a use by one block of its operands from a place on

@@ -4,11 +4,12 @@ use Rattle.std.specs.List.{Contains, flat_map}
 use Rattle.std.proofs.lemmas.Bool.{cases_lt}
 use Rattle.std.proofs.lemmas.List.{length-append, map-append, take_at, drop_at, get_or_append_left, get_or-append-add, get_or_past}
 use Rattle.std.proofs.lemmas.Option.{same_Some}
+use Rattle.mk_base.proofs.Lists.{Contains-cases}
 use Rattle.mk_code.specs.Counting.{AllBelow}
 use Rattle.mk_code.specs.Private.{observation}
 use Rattle.mk_code.proofs.Totals.{AllBelow-append}
 use Rattle.mk_code.proofs.Steps.{AllBelow-at}
-use Rattle.mk_rules.proofs.Probes.{Contains-cases, Contains-none, Contains-first, Contains-more}
+use Rattle.mk_rules.proofs.Probes.{Contains-none, Contains-first, Contains-more}
 
 -- what is seen at some places and then others
 pub observation-append : (places more entries : List ℕ) → observation (places ++ more) entries ≡ observation places entries ++ observation more entries

@@ -1,4 +1,4 @@
-ghost use Rattle.std.specs.Prelude.{◌≡◌, [], ◌∷◌, ◌++◌, OnOk, OnErr};
+ghost use Rattle.std.specs.Prelude.{◌≡◌, [], ◌∷◌, ◌++◌, IfOk, OnOk, OnErr};
 
 use mk_base::{Items, Memory};
 use mk_code::Code;
@@ -60,6 +60,16 @@ impl Cert {
         ensures memory { OnErr result (self.new ≡ self.old) }
     {
         self.claims.push(value)
+    }
+
+    /// An equal certificate.
+    pub fn copy(&self, alloc: Global) -> Result<Cert, Memory>
+        ensures { IfOk result (λ copied. copied ≡ self.now) }
+    {
+        Ok(Cert {
+            blocks: self.blocks.copy(alloc)?,
+            claims: self.claims.copy(alloc)?,
+        })
     }
 }
 

@@ -30,6 +30,13 @@ impl<const N: usize> Bank<N> {
         }
         Bank { regs }
     }
+
+    /// There are `N` positions. It does nothing.
+    pub fn law(&self)
+        ensures { length self.now.regs ≡ N }
+    {
+        let _regs = self.regs;
+    }
 }
 
 /// The encoding of a value by the N - 1 elements of the tape: these are the shares from 1 on, and

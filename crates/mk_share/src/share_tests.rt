@@ -1,5 +1,6 @@
 //! Worked values, with few and with many shares, over both fields.
 ghost use Rattle.std.specs.Prelude.{◌≡◌, ◌+◌, ◌≤◌, ◌<◌, All, length};
+ghost use Rattle.mk_base.specs.declared.TheConstants.{TOP_ORDER};
 ghost use Rattle.mk_field.specs.Field.{size};
 
 use crate::{Bank, Sharing, decode, encode, encoding_law, with_order};
@@ -27,7 +28,7 @@ fn shares<F: Field, const N: usize>() -> usize
 /// How many shares a value has at an order.
 fn shares_at(order: u8) -> usize
     requires least { 1 ≤ order }
-    requires most { order ≤ 8 }
+    requires most { order ≤ TOP_ORDER }
     ensures { result ≡ order + 1 }
 {
     with_order!(order, shares::<Gf256>())
@@ -35,7 +36,7 @@ fn shares_at(order: u8) -> usize
 
 /// The number of shares and one more number.
 fn shares_and<F: Field, const N: usize>(more: usize) -> usize
-    requires more { more ≤ 8 }
+    requires more { more ≤ TOP_ORDER }
     requires most { N ≤ 256 }
     ensures { result ≡ N + more }
 {
@@ -45,8 +46,8 @@ fn shares_and<F: Field, const N: usize>(more: usize) -> usize
 /// How many shares a bit has at an order, and one more number.
 fn bit_shares_and(order: u8, more: usize) -> usize
     requires least { 1 ≤ order }
-    requires most { order ≤ 8 }
-    requires more { more ≤ 8 }
+    requires most { order ≤ TOP_ORDER }
+    requires more { more ≤ TOP_ORDER }
     ensures { result ≡ order + 1 + more }
 {
     with_order!(order, shares_and::<Gf2>(more))

@@ -3,6 +3,7 @@ use Rattle.std.proofs.Common.{◌≡◌, ℕ, zero, suc, ◌+◌, ◌≤◌, ◌
 use Rattle.std.specs.List.{AllByRecursion, Contains}
 use Rattle.std.proofs.lemmas.List.Elements.{All-push, All-nil, All-weaker, Contains-append_left, Contains-append_right, Contains-append_cases}
 use Rattle.std.proofs.lemmas.Bool.{cases_order}
+use Rattle.mk_base.proofs.Lists.{Contains-cases, Contains-map}
 use Rattle.mk_ssa.specs.declared.Op.{Op}
 use Rattle.mk_ssa.specs.declared.Operand.{Operand}
 use Rattle.mk_ssa.specs.declared.Operand.TheVariants.{Secret, Public, Block}
@@ -123,21 +124,16 @@ parts-whole (Tree.Leaf o) = slice_get-contains (Tree.Leaf o ∷ []) 0 (Tree.Leaf
 parts-whole (Tree.Unary o a) = slice_get-contains (Tree.Unary o a ∷ parts a) 0 (Tree.Unary o a) refl
 parts-whole (Tree.Binary o a b) = slice_get-contains (Tree.Binary o a b ∷ parts a ++ parts b) 0 (Tree.Binary o a b) refl
 
--- an element of a list is the first, or one behind it
-pub contains-cases : {X : Type 0} (y : X) (ys : List X) (x : X) → Contains (y ∷ ys) x → (y ≡ x) ⊎ Contains ys x
-contains-cases y ys x (zero, below, is) = inl is
-contains-cases y ys x (suc k, below, is) = inr (k, omega (arith, below), is)
-
 -- a part is the tree, or a part of a tree below its root
 pub parts-cases : (w t : Tree) → Contains (parts w) t → (w ≡ t) ⊎ Contains (flat_map parts (kids w)) t
 unfolding parts kids
-parts-cases (Tree.Input v) t there = elim (contains-cases (Tree.Input v) [] t there) [ inl same ↦ inl same | inr behind ↦ inr behind ]
-parts-cases (Tree.Leaf o) t there = elim (contains-cases (Tree.Leaf o) [] t there) [ inl same ↦ inl same | inr behind ↦ inr behind ]
-parts-cases (Tree.Unary o a) t there = elim (contains-cases (Tree.Unary o a) (parts a) t there) [
+parts-cases (Tree.Input v) t there = elim (Contains-cases (Tree.Input v) [] t there) [ inl same ↦ inl same | inr behind ↦ inr behind ]
+parts-cases (Tree.Leaf o) t there = elim (Contains-cases (Tree.Leaf o) [] t there) [ inl same ↦ inl same | inr behind ↦ inr behind ]
+parts-cases (Tree.Unary o a) t there = elim (Contains-cases (Tree.Unary o a) (parts a) t there) [
   | inl same ↦ inl same
   | inr behind ↦ inr (Contains-append_left (parts a) [] t behind)
 ]
-parts-cases (Tree.Binary o a b) t there = elim (contains-cases (Tree.Binary o a b) (parts a ++ parts b) t there) [
+parts-cases (Tree.Binary o a b) t there = elim (Contains-cases (Tree.Binary o a b) (parts a ++ parts b) t there) [
   | inl same ↦ inl same
   | inr behind ↦ elim (Contains-append_cases (parts a) (parts b) t behind) [
     | inl first ↦ inr (Contains-append_left (parts a) (parts b ++ []) t first)
@@ -150,15 +146,15 @@ kids-parts : (w a : Tree) → Contains (kids w) a → Contains (parts w) a
 unfolding parts kids
 kids-parts (Tree.Input v) a there = absurd (omega (arith, there.1))
 kids-parts (Tree.Leaf o) a there = absurd (omega (arith, there.1))
-kids-parts (Tree.Unary o b) a there = elim (contains-cases b [] a there) [
+kids-parts (Tree.Unary o b) a there = elim (Contains-cases b [] a there) [
   | inl same ↦ Contains-append_right (Tree.Unary o b ∷ []) (parts b) a (subst (λ (t : Tree). Contains (parts b) t) same (parts-whole b))
   | inr behind ↦ absurd (omega (arith, behind.1))
 ]
-kids-parts (Tree.Binary o b c) a there = elim (contains-cases b (c ∷ []) a there) [
+kids-parts (Tree.Binary o b c) a there = elim (Contains-cases b (c ∷ []) a there) [
   | inl same ↦
       Contains-append_right (Tree.Binary o b c ∷ []) (parts b ++ parts c) a
       (Contains-append_left (parts b) (parts c) a (subst (λ (t : Tree). Contains (parts b) t) same (parts-whole b)))
-  | inr behind ↦ elim (contains-cases c [] a behind) [
+  | inr behind ↦ elim (Contains-cases c [] a behind) [
     | inl same ↦
         Contains-append_right (Tree.Binary o b c ∷ []) (parts b ++ parts c) a
         (Contains-append_right (parts b) (parts c) a (subst (λ (t : Tree). Contains (parts c) t) same (parts-whole c)))
@@ -169,19 +165,19 @@ kids-parts (Tree.Binary o b c) a there = elim (contains-cases b (c ∷ []) a the
 -- a part of a part is a part
 pub parts-of-parts : (w u t : Tree) → Contains (parts w) u → Contains (parts u) t → Contains (parts w) t
 unfolding parts
-parts-of-parts (Tree.Input v) u t first second = elim (contains-cases (Tree.Input v) [] u first) [
+parts-of-parts (Tree.Input v) u t first second = elim (Contains-cases (Tree.Input v) [] u first) [
   | inl same ↦ subst (λ (x : Tree). Contains (parts x) t) (sym same) second
   | inr behind ↦ absurd (omega (arith, behind.1))
 ]
-parts-of-parts (Tree.Leaf o) u t first second = elim (contains-cases (Tree.Leaf o) [] u first) [
+parts-of-parts (Tree.Leaf o) u t first second = elim (Contains-cases (Tree.Leaf o) [] u first) [
   | inl same ↦ subst (λ (x : Tree). Contains (parts x) t) (sym same) second
   | inr behind ↦ absurd (omega (arith, behind.1))
 ]
-parts-of-parts (Tree.Unary o a) u t first second = elim (contains-cases (Tree.Unary o a) (parts a) u first) [
+parts-of-parts (Tree.Unary o a) u t first second = elim (Contains-cases (Tree.Unary o a) (parts a) u first) [
   | inl same ↦ subst (λ (x : Tree). Contains (parts x) t) (sym same) second
   | inr behind ↦ Contains-append_right (Tree.Unary o a ∷ []) (parts a) t (parts-of-parts a u t behind second)
 ]
-parts-of-parts (Tree.Binary o a b) u t first second = elim (contains-cases (Tree.Binary o a b) (parts a ++ parts b) u first) [
+parts-of-parts (Tree.Binary o a b) u t first second = elim (Contains-cases (Tree.Binary o a b) (parts a ++ parts b) u first) [
   | inl same ↦ subst (λ (x : Tree). Contains (parts x) t) (sym same) second
   | inr behind ↦ elim (Contains-append_cases (parts a) (parts b) u behind) [
     | inl left ↦
@@ -194,7 +190,7 @@ parts-of-parts (Tree.Binary o a b) u t first second = elim (contains-cases (Tree
 -- what is made of one of the elements is among what is made of all
 pub flat_map-contains : {X Y : Type 0} (f : X → List Y) (xs : List X) (x : X) (y : Y) → Contains xs x → Contains (f x) y → Contains (flat_map f xs) y
 flat_map-contains f [] x y there of = absurd (omega (arith, there.1))
-flat_map-contains f (z ∷ zs) x y there of = elim (contains-cases z zs x there) [
+flat_map-contains f (z ∷ zs) x y there of = elim (Contains-cases z zs x there) [
   | inl same ↦ Contains-append_left (f z) (flat_map f zs) y (subst (λ w. Contains (f w) y) (sym same) of)
   | inr behind ↦ Contains-append_right (f z) (flat_map f zs) y (flat_map-contains f zs x y behind of)
 ]
@@ -220,17 +216,9 @@ pub record IsMarking (ops : List Op) (outs done : List Operand) (n : ℕ) (marks
 -- what holds of each holds of one
 pub AllByRecursion-contains : {X : Type 0} (P : X → Type 0) (xs : List X) (x : X) → AllByRecursion P xs → Contains xs x → P x
 AllByRecursion-contains P [] x all there = absurd (omega (arith, there.1))
-AllByRecursion-contains P (y ∷ ys) x all there = elim (contains-cases y ys x there) [
+AllByRecursion-contains P (y ∷ ys) x all there = elim (Contains-cases y ys x there) [
   | inl same ↦ subst P same all.0
   | inr behind ↦ AllByRecursion-contains P ys x all.1 behind
-]
-
--- the image of an element
-pub map-contains : {X Y : Type 0} (f : X → Y) (xs : List X) (x : X) → Contains xs x → Contains (map f xs) (f x)
-map-contains f [] x there = absurd (omega (arith, there.1))
-map-contains f (y ∷ ys) x there = elim (contains-cases y ys x there) [
-  | inl same ↦ slice_get-contains (map f (y ∷ ys)) 0 (f x) (ap (λ z. Some (f z)) same)
-  | inr behind ↦ Contains-append_right (f y ∷ []) (map f ys) (f x) (map-contains f ys x behind)
 ]
 
 -- an operand's tree is below the root of the value's
@@ -240,7 +228,7 @@ kid-of ops k x v earlier at there =
     let e : kids (tree_of ops (Block k)) ≡ map (tree_of ops) (operands x) =
     ap kids (tree_of-at ops k x earlier at)
     ∙ kids-over (operator x) (map (tree_of ops) (operands x)) (omega (arith, operands-few x, length-map (tree_of ops) (operands x))) in
-    subst (λ (l : List Tree). Contains l (tree_of ops v)) (sym e) (map-contains (tree_of ops) (operands x) v there)
+    subst (λ (l : List Tree). Contains l (tree_of ops v)) (sym e) (Contains-map (tree_of ops) (operands x) v there)
 
 -- one output more is marked
 pub IsMarking-out : (ops : List Op) (outs done : List Operand) (marks : List Bool) (v : Operand) → IsMarking ops outs done (length ops) marks

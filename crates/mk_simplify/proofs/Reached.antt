@@ -3,6 +3,7 @@ use Rattle.std.proofs.Common.{◌≡◌, ℕ, zero, suc, ◌≤◌, ◌<◌, Lis
 use Rattle.std.specs.List.{AllByRecursion, Contains}
 use Rattle.std.proofs.lemmas.List.Elements.{Contains-append_right}
 use Rattle.std.proofs.lemmas.Option.{slice_get-get_or}
+use Rattle.mk_base.proofs.Lists.{Contains-from_map}
 use Rattle.mk_ssa.specs.declared.Op.{Op}
 use Rattle.mk_ssa.specs.declared.Op.TheVariants.{Const}
 use Rattle.mk_ssa.specs.declared.Operand.{Operand}
@@ -14,15 +15,7 @@ use Rattle.mk_simplify.proofs.Operators.{operands-few}
 use Rattle.mk_simplify.proofs.Trees.{kids, kids-over, length-map, tree_of-at}
 use Rattle.mk_simplify.proofs.Different.{input-not_value}
 use Rattle.mk_simplify.proofs.Kept.{slice_get-contains}
-use Rattle.mk_simplify.proofs.Marks.{contains-cases, parts-cases, flat_map-from, AllByRecursion-contains}
-
--- an image is that of an element
-pub map-from : {X Y : Type 0} (f : X → Y) (xs : List X) (y : Y) → Contains (map f xs) y → (x : X) × Contains xs x × (f x ≡ y)
-map-from f [] y there = absurd (omega (arith, there.1))
-map-from f (z ∷ zs) y there = elim (contains-cases (f z) (map f zs) y there) [
-  | inl same ↦ (z, slice_get-contains (z ∷ zs) 0 z refl, same)
-  | inr behind ↦ let rest = map-from f zs y behind in (rest.0, Contains-append_right (z ∷ []) zs rest.0 rest.1, rest.2)
-]
+use Rattle.mk_simplify.proofs.Marks.{parts-cases, flat_map-from, AllByRecursion-contains}
 
 -- the operand itself, or an operand of a value of which `on` holds
 abbrev pub IsReached : (ℕ → Type 0) → List Op → Operand → ℕ → Type 0
@@ -58,7 +51,7 @@ reached on ops earlier different closed (suc n) (Block i) k below small holds wi
           ∙ kids-over (operator x) (map (tree_of ops) (operands x)) (omega (arith, operands-few x, length-map (tree_of ops) (operands x))) in
           let found = flat_map-from parts (map (tree_of ops) (operands x)) (tree_of ops (Block k))
           (subst (λ (l : List Tree). Contains (flat_map parts l) (tree_of ops (Block k))) kids_are kid) in
-          let operand = map-from (tree_of ops) (operands x) found.0 found.1 in
+          let operand = Contains-from_map (tree_of ops) (operands x) found.0 found.1 in
           let behind : IsReached on ops operand.0 k =
           reached on ops earlier different closed n operand.0 k
           (below-less i n operand.0 (omega (arith, below)) (AllByRecursion-contains (IsBelow i) (operands x) operand.0 (earlier i x at) operand.1))

@@ -2,6 +2,7 @@
 use Rattle.std.proofs.Common.{◌≡◌, ℕ, ◌<◌, List, [], inl, inr, All, flat_map, map, length, slice_get, Some, Result, Ok, Err, IfOk, sym, ◌∙◌, ap, subst, arith}
 use Rattle.std.specs.List.{Contains}
 use Rattle.std.proofs.lemmas.List.Elements.{All-contains}
+use Rattle.mk_base.proofs.Lists.{Contains-from_map}
 use Rattle.mk_ssa.specs.declared.Op.{Op}
 use Rattle.mk_ssa.specs.declared.Operand.TheVariants.{Block}
 use Rattle.mk_ssa.specs.Operators.{operands}
@@ -16,7 +17,7 @@ use Rattle.mk_simplify.proofs.Kept.{AreKept-at, AreKept-different}
 use Rattle.mk_simplify.proofs.Different.{OnValue-everywhere}
 use Rattle.mk_simplify.proofs.Marks.{flat_map-from, AllByRecursion-contains}
 use Rattle.mk_simplify.proofs.Merges.{tree-at}
-use Rattle.mk_simplify.proofs.Reached.{map-from, reached}
+use Rattle.mk_simplify.proofs.Reached.{reached}
 use Rattle.mk_simplify.proofs.Whole.{flat_map-map}
 
 -- simplified values have different trees
@@ -52,7 +53,7 @@ simplified-used s r is earlier outs k within =
     let there : Contains (flat_map parts (map (tree_of r.values) r.outs)) t =
     subst (λ (l : List Tree). Contains l t) (needed-outs s ∙ ap (flat_map parts) (sym is.outs)) kept.2 in
     let found = flat_map-from parts (map (tree_of r.values) r.outs) t there in
-    let out = map-from (tree_of r.values) r.outs found.0 found.1 in
+    let out = Contains-from_map (tree_of r.values) r.outs found.0 found.1 in
     elim (reached (λ j. Unit {0}) r.values earlier (kept-different s r is)
     (λ i x on at. AllByRecursion-of_all (OnValue (λ j. Unit {0})) (operands x) OnValue-everywhere)
     (length r.values) out.0 k (All-contains (IsBelow (length r.values)) r.outs out.0 outs out.1) (omega arith) (OnValue-everywhere out.0) within

@@ -3,6 +3,7 @@ use Rattle.std.proofs.Common.{◌≡◌, ℕ, ◌<◌, List, [], ◌∷◌, ◌+
 use Rattle.std.specs.List.{AllByRecursion, Contains}
 use Rattle.std.proofs.lemmas.List.Elements.{All-map, All-weaker, All-head, All-tail, All-contains, Contains-get_or}
 use Rattle.std.proofs.lemmas.Option.{slice_get-get_or}
+use Rattle.mk_base.proofs.Lists.{Contains-map}
 use Rattle.mk_field.specs.declared.field.FieldId.{FieldId}
 use Rattle.mk_field.specs.declared.map.AddMap.{AddMap}
 use Rattle.mk_ssa.specs.declared.Op.{Op}
@@ -18,7 +19,7 @@ use Rattle.mk_simplify.proofs.Trees.{length-trees, map-same, map-of-map}
 use Rattle.mk_simplify.proofs.Carried.{made-earlier, shared-within, carried-operand, carried-shared}
 use Rattle.mk_simplify.proofs.Kept.{AreKept-marked, AreChosen, unsome}
 use Rattle.mk_simplify.proofs.Different.{OnValue-everywhere, trees-different, true-not_false}
-use Rattle.mk_simplify.proofs.Marks.{flat_map-from, AllByRecursion-contains, map-contains}
+use Rattle.mk_simplify.proofs.Marks.{flat_map-from, AllByRecursion-contains}
 use Rattle.mk_simplify.proofs.Merges.{merged-operand, merged-within, tree-at}
 use Rattle.mk_simplify.proofs.Placing.{placed-operands, on-both}
 use Rattle.mk_simplify.proofs.Reached.{reached}
@@ -131,7 +132,7 @@ output-on : (s : Values) (kept : List Op) (numbers : List ℕ) (outs : List Oper
     → IsMade s kept numbers outs marks values places → (v : Operand) → Contains s.outs v → OnValue (IsOn kept marks) (renumbered numbers v)
 output-on s kept numbers outs marks values places made v there =
     let w = renumbered numbers v in
-    let there_w : Contains outs w = subst (λ (l : List Operand). Contains l w) (sym made.renumbered) (map-contains (renumbered numbers) s.outs v there) in
+    let there_w : Contains outs w = subst (λ (l : List Operand). Contains l w) (sym made.renumbered) (Contains-map (renumbered numbers) s.outs v there) in
     on-both (IsMarked marks) (length kept) w (
       All-contains (IsBelow (length kept)) outs w (outs-merged s kept numbers outs made.whole made.merged made.renumbered) there_w,
       All-contains (OnValue (IsMarked marks)) outs w made.marked.outputs there_w,

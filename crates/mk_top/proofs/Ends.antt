@@ -3,8 +3,13 @@ use Rattle.std.proofs.Common.{◌≡◌, ℕ, ◌<◌, ◌≤◌, List, [], ◌�
 use Rattle.std.specs.Prelude.{option_map, codes}
 use Rattle.mk_base.specs.Outside.{Rose}
 use Rattle.mk_base.specs.Streams.{ReadsAll}
+use Rattle.mk_rules.specs.declared.cert.Bundle.{Bundle}
+use Rattle.mk_rules.specs.Pairs.{IsPair}
+use Rattle.mk_bundle.specs.Text.{text}
 use Rattle.mk_bundle.specs.Pairs.{TextsDiffer}
 use Rattle.mk_words.specs.declared.status.Status.TheVariants as status
+use Rattle.mk_top.specs.declared.answer.Answer.{Answer}
+use Rattle.mk_top.specs.declared.answer.Answer.TheVariants as answer
 use Rattle.mk_top.specs.declared.fault.Fault.{Fault}
 use Rattle.mk_top.specs.declared.fault.Fault.TheVariants as fault_
 use Rattle.mk_words.specs.Words.{Command, Compile, Check, Eval, Run, Count, Report, Gen, Trial, GivenTape, Seed, Tape, SaysElements, SaysTape, SaysProbes, Asks}
@@ -19,7 +24,7 @@ use Rattle.mk_top.specs.Decided.{Decides, TextDecides, limit_of}
 use Rattle.mk_top.specs.Headline.{Makes, TakesWhole, TakesSome}
 use Rattle.mk_top.specs.Because.{ReadWhole, Reads, input_of, Because, IsOrMemory, answer_status, IsAnswerOf}
 use Rattle.mk_top.specs.Seen.{Seen}
-use Rattle.mk_top.specs.Running.{Finished, StoppedAt, Stopped, ReadsOrLeaves, NotMade, NoText, Made, IsMade, IsUnmade}
+use Rattle.mk_top.specs.Running.{Finished, StoppedAt, Stopped, ReadsOrLeaves, NotMade, NoText, Made, IsMade, IsUnmade, text_of, answered}
 use Rattle.mk_words.proofs.Asking.{asks-one}
 use Rattle.mk_top.proofs.Deciding.{decides-one}
 use Rattle.mk_top.proofs.Tried.{tries-decides}
@@ -137,21 +142,44 @@ stopped-cut command input output fault_.Memory s is = absurd cc
 stopped-cut command input output (fault_.Tapes elements) s is = absurd cc
 stopped-cut command input output (fault_.TooLong at) s is = absurd cc
 
+-- the text that the command made which the words ask for
+abbrev pub IsTextMade : List (List ℕ) → Seen → List ℕ → Type 0
+IsTextMade words input written = (command : Command) × Asks words command × Made command input written
+
+-- it is an answer, which can be written
+pub text-answered : (words : List (List ℕ)) (input : Seen) (r : Result (List ℕ) Fault) (given : Result Answer Fault)
+    → given ≡ answered answer.Text r → IfOk r (IsTextMade words input) → IfOk given (IsMade words input)
+text-answered words input (Ok text) given is made = subst (λ (g : Result Answer Fault). IfOk g (IsMade words input)) (sym is) (made.0, made.1, made.2, tt)
+text-answered words input (Err fault) given is made = subst (λ (g : Result Answer Fault). IfOk g (IsMade words input)) (sym is) tt
+
+-- and so is a bundle whose code and certificate are a pair
+pub bundle-answered : (words : List (List ℕ)) (command : Command) (input : Seen) (r : Result Bundle Fault) (given : Result Answer Fault)
+    → given ≡ answered answer.Bundle r → Asks words command → IfOk r (λ b. Made command input (text b.code b.cert)) → IfOk r (λ b. IsPair b.code b.cert)
+    → IfOk given (IsMade words input)
+bundle-answered words command input (Ok b) given is asks made pair = subst (λ (g : Result Answer Fault). IfOk g (IsMade words input)) (sym is) (command, asks, made, pair)
+bundle-answered words command input (Err fault) given is asks made pair = subst (λ (g : Result Answer Fault). IfOk g (IsMade words input)) (sym is) tt
+
+-- a fault stays
+pub fault-answered : {X : Type 0} (form : X → Answer) (P : Fault → Type 0) (r : Result X Fault) (given : Result Answer Fault)
+    → given ≡ answered form r → IfErr r P → IfErr given P
+fault-answered form P (Ok made) given is holds = subst (λ (g : Result Answer Fault). IfErr g P) (sym is) tt
+fault-answered form P (Err fault) given is holds = subst (λ (g : Result Answer Fault). IfErr g P) (sym is) holds
+
 -- the text of what the words ask for was put whole
-pub put-finished : (words : List (List ℕ)) (input output : Seen) (written : List ℕ) (r : Result (Unit {0}) Fault)
-    → IsMade words input written → OnOk r (TakesWhole output.before written output.after)
+pub put-finished : (words : List (List ℕ)) (input output : Seen) (made : Answer) (r : Result (Unit {0}) Fault)
+    → IsMade words input made → OnOk r (TakesWhole output.before (text_of made) output.after)
     → OnOk r ((command : Command) × Asks words command × Finished command input output)
-put-finished words input output written (Ok done) made whole = (made.0, made.1, record { written = written; made = made.2; whole = whole })
-put-finished words input output written (Err fault) made whole = tt
+put-finished words input output made (Ok done) is whole = (is.0, is.1, record { written = text_of made; made = is.2; whole = whole })
+put-finished words input output made (Err fault) is whole = tt
 
 -- or the output failed
-pub put-stopped : (words : List (List ℕ)) (input output : Seen) (written : List ℕ) (r : Result (Unit {0}) Fault)
-    → IsMade words input written → IfErr r (λ fault. fault ≡ fault_.WriteFault)
-    → IfErr r (λ fault. TakesSome output.before written output.after) → IfErr r (λ fault. Rose output.faults output.faults_after)
+pub put-stopped : (words : List (List ℕ)) (input output : Seen) (made : Answer) (r : Result (Unit {0}) Fault)
+    → IsMade words input made → IfErr r (λ fault. fault ≡ fault_.WriteFault)
+    → IfErr r (λ fault. TakesSome output.before (text_of made) output.after) → IfErr r (λ fault. Rose output.faults output.faults_after)
     → IfErr r (Stopped words input output)
-put-stopped words input output written (Ok done) made is some rose = tt
-put-stopped words input output written (Err fault) made is some rose =
-    subst (Stopped words input output) (sym is) (made.0, made.1, record { written = written; made = made.2; some = some; rose = rose })
+put-stopped words input output made (Ok done) has is some rose = tt
+put-stopped words input output made (Err fault) has is some rose =
+    subst (Stopped words input output) (sym is) (has.0, has.1, record { written = text_of made; made = has.2; some = some; rose = rose })
 
 -- where there is no text, nothing was put
 pub unmade-stopped : (words : List (List ℕ)) (input output : Seen) (fault : Fault) → IsUnmade words input fault → Stopped words input output fault
@@ -161,14 +189,14 @@ unmade-stopped words input output fault none = none
 
 -- a text that a command made is that of the words that ask for it
 pub made-asked : (words : List (List ℕ)) (command : Command) (input : Seen) (r : Result (List ℕ) Fault)
-    → Asks words command → IfOk r (Made command input) → IfOk r (IsMade words input)
+    → Asks words command → IfOk r (Made command input) → IfOk r (IsTextMade words input)
 made-asked words command input (Ok text) asks made = (command, asks, made)
 made-asked words command input (Err fault) asks made = tt
 
 -- and where it has none, they have none
-pub unmade-asked : (words : List (List ℕ)) (command : Command) (input : Seen) (r : Result (List ℕ) Fault)
+pub unmade-asked : {X : Type 0} (words : List (List ℕ)) (command : Command) (input : Seen) (r : Result X Fault)
     → Asks words command → IfErr r (NoText command input) → IfErr r (IsUnmade words input)
-unmade-asked words command input (Ok text) asks none = tt
+unmade-asked words command input (Ok made) asks none = tt
 unmade-asked words command input (Err fault_.Words) asks none = absurd none
 unmade-asked words command input (Err fault) asks none = (command, asks, none)
 
@@ -180,7 +208,7 @@ nothing-read before after none still =
 -- so its text is made
 pub made-unread : (words : List (List ℕ)) (command : Command) (input : Seen) (r : Result (List ℕ) Fault)
     → input_of command input.before ≡ Some [] → input_of command input.after ≡ Some [] → Asks words command → IfOk r (Makes command (Some []))
-    → IfOk r (IsMade words input)
+    → IfOk r (IsTextMade words input)
 made-unread words command input r none still asks makes =
     made-asked words command input r asks (made-given command input [] r (omega arith) (nothing-read _ _ none still) makes)
 
@@ -193,7 +221,7 @@ unmade-unread words command input r none still asks why =
 
 -- the same of an evaluation on the elements that the words say
 pub made-evaluated : (words : List (List ℕ)) (first second : List ℕ) (input : Seen) (r : Result (List ℕ) Fault)
-    → words ≡ codes "eval" ∷ first ∷ second ∷ [] → IfOk r (λ text. OfElements first second (λ command. Made command input text)) → IfOk r (IsMade words input)
+    → words ≡ codes "eval" ∷ first ∷ second ∷ [] → IfOk r (λ text. OfElements first second (λ command. Made command input text)) → IfOk r (IsTextMade words input)
 made-evaluated words first second input (Ok text) asks made = (Eval made.0 made.1, (first, second, asks, made.2, made.3), made.4)
 made-evaluated words first second input (Err fault) asks made = tt
 
@@ -203,7 +231,7 @@ pub unmade-evaluated : (words : List (List ℕ)) (first second : List ℕ) (inpu
     → IfErr r (IsUnmade words input)
 unmade-evaluated words first second input (Ok text) asks none = tt
 unmade-evaluated words first second input (Err fault) asks none =
-    unmade-asked words (Eval none.0 none.1) input (Err fault) (first, second, asks, none.2, none.3) none.4
+    unmade-asked {X = List ℕ} words (Eval none.0 none.1) input (Err fault) (first, second, asks, none.2, none.3) none.4
 
 -- the tape that the words give is the one that they say
 tape-said : (kind word : List ℕ) (tape : TapeForm) (given : GivenTape) → SaysTapeSo kind word tape → IsGivenBy tape given → SaysTape kind word given
@@ -220,7 +248,7 @@ asks-run words kind word first second tape P asks says of =
 -- the same of a run on what the words say
 pub made-run : (words : List (List ℕ)) (kind word : List ℕ) (first second : List ℕ) (tape : TapeForm) (input : Seen) (r : Result (List ℕ) Fault)
     → words ≡ codes "run" ∷ first ∷ second ∷ kind ∷ word ∷ [] → SaysTapeSo kind word tape
-    → IfOk r (λ text. OfRun first second tape (λ command. Made command input text)) → IfOk r (IsMade words input)
+    → IfOk r (λ text. OfRun first second tape (λ command. Made command input text)) → IfOk r (IsTextMade words input)
 made-run words kind word first second tape input (Ok text) asks says made =
     asks-run words kind word first second tape (λ command. Made command input text) asks says made
 made-run words kind word first second tape input (Err fault) asks says made = tt
@@ -233,7 +261,7 @@ unmade-run words kind word first second tape input (Ok text) asks says none = tt
 unmade-run words kind word first second tape input (Err fault) asks says none =
     let run =
     asks-run words kind word first second tape (λ command. NoText command input fault) asks says none in
-    unmade-asked words run.0 input (Err fault) run.1 run.2
+    unmade-asked {X = List ℕ} words run.0 input (Err fault) run.1 run.2
 
 -- what holds of every run holds of the one on what the words say
 pub any-run : (first second : List ℕ) (tape : TapeForm) (P : Command → Type 0) → AreElements first → AreElements second → IsTapeForm tape
@@ -258,7 +286,7 @@ asks-count words word one two seen P asks of = (Count of.0 of.1 of.2 of.3, (word
 
 -- the same of a count on what the words say
 pub made-counted : (words : List (List ℕ)) (word one two seen : List ℕ) (input : Seen) (r : Result (List ℕ) Fault)
-    → words ≡ codes "count" ∷ word ∷ one ∷ two ∷ seen ∷ [] → IfOk r (λ text. OfCount word one two seen (λ command. Made command input text)) → IfOk r (IsMade words input)
+    → words ≡ codes "count" ∷ word ∷ one ∷ two ∷ seen ∷ [] → IfOk r (λ text. OfCount word one two seen (λ command. Made command input text)) → IfOk r (IsTextMade words input)
 made-counted words word one two seen input (Ok text) asks made =
     asks-count words word one two seen (λ command. Made command input text) asks made
 made-counted words word one two seen input (Err fault) asks made = tt
@@ -271,7 +299,7 @@ unmade-counted words word one two seen input (Ok text) asks none = tt
 unmade-counted words word one two seen input (Err fault) asks none =
     let counted =
     asks-count words word one two seen (λ command. NoText command input fault) asks none in
-    unmade-asked words counted.0 input (Err fault) counted.1 counted.2
+    unmade-asked {X = List ℕ} words counted.0 input (Err fault) counted.1 counted.2
 
 -- a count on elements and probes is one on the words that say them
 module _ (word one two seen publics first second probes qs us xs ks : List ℕ) (P : Command → Type 0)

@@ -1,7 +1,10 @@
 -- What was made of a text, said of the bytes that the input gave.
-use Rattle.std.proofs.Common.{◌≡◌, ℕ, ◌≤◌, List, Option, Some, None, Result, Ok, Err, IfOk, IfErr, IfSome, length, refl, subst, sym, ap, ◌⊎◌, inl, inr}
+use Rattle.std.proofs.Common.{◌≡◌, ℕ, ◌≤◌, ◌<◌, List, [], ◌++◌, drop, Option, Some, None, Result, Ok, Err, IfOk, IfErr, IfSome, length, refl, subst, sym, ap, ◌∙◌, arith, ◌⊎◌, inl, inr}
 use Rattle.std.specs.Prelude.{option_map}
-use Rattle.mk_base.specs.Streams.{ReadsAll}
+use Rattle.std.proofs.lemmas.List.{append-nil, length-append}
+use Rattle.std.proofs.Math.Seq.{drop-append_seam}
+use Rattle.mk_base.specs.Outside.{Rose}
+use Rattle.mk_base.specs.Streams.{ReadsAll, CameWithin}
 use Rattle.mk_top.specs.declared.fault.Fault.{Fault}
 use Rattle.mk_top.specs.declared.fault.Fault.TheVariants as fault_
 use Rattle.mk_words.specs.Words.{Command, Compile, Check, Eval, Run, Count, Report, Gen, Trial, GivenTape}
@@ -9,7 +12,14 @@ use Rattle.mk_code.specs.Listing.{Listing}
 use Rattle.mk_code.specs.Private.{Private}
 use Rattle.mk_rules.specs.Claimed.{Claimed}
 use Rattle.mk_bundle.specs.declared.TheConstants.{MOST_BYTES}
-use Rattle.mk_bundle.specs.Pairs.{IsTextOf}
+use Rattle.mk_bundle.specs.Pairs.{IsTextOf, IsBundleText}
+use Rattle.mk_bundle.specs.Text.{text}
+use Rattle.mk_bundle.specs.Taking.{Comes}
+use Rattle.mk_bundle.specs.Reads.{Collected, Denies}
+use Rattle.mk_bundle.specs.declared.refusal.StreamRefusal.{StreamRefusal}
+use Rattle.mk_bundle.specs.declared.refusal.StreamRefusal.TheVariants as refusals
+use Rattle.mk_lines.specs.Lines.{NamesFirst}
+use Rattle.mk_rules.specs.declared.cert.Bundle.{Bundle}
 use Rattle.mk_rules.specs.Accepts.{IsAccepted}
 use Rattle.mk_types.specs.Elements.{maps_of}
 use Rattle.mk_unroll.specs.Causes.{Cause}
@@ -18,7 +28,7 @@ use Rattle.mk_compile.specs.Compiled.{IsWithin, IsCertified}
 use Rattle.mk_compile.specs.Correct.{Correct}
 use Rattle.mk_top.specs.Decided.{limit_of, TextDecides}
 use Rattle.mk_top.specs.Headline.{CompilesSo, Checks, Evaluates, Makes}
-use Rattle.mk_top.specs.Because.{ReadWhole, IsAnswerOf, input_of}
+use Rattle.mk_top.specs.Because.{ReadWhole, Reads, IsAnswerOf, input_of}
 use Rattle.mk_top.specs.Sources.{IsSourceOf}
 use Rattle.mk_eval.specs.declared.refusal.EvalRefusal.{EvalRefusal}
 use Rattle.mk_eval.specs.declared.refusal.EvalRefusal.TheVariants as eval
@@ -33,9 +43,9 @@ use Rattle.mk_run.specs.declared.refusal.CountRefusal.TheVariants as count
 use Rattle.mk_run.specs.Refusals.{count_refusal, whole_refusal}
 use Rattle.mk_code.specs.Private.{masked_trace}
 use Rattle.mk_top.specs.Runs.{Runs, tape_of, run_text}
-use Rattle.mk_top.specs.Faults.{fault_of_source, status_of, fault_of_eval, fault_of_run, fault_of_count}
+use Rattle.mk_top.specs.Faults.{fault_of_bundle, fault_of_source, status_of, fault_of_eval, fault_of_run, fault_of_count}
 use Rattle.mk_top.specs.Seen.{Seen}
-use Rattle.mk_top.specs.Running.{NotMade, Made, NoText}
+use Rattle.mk_top.specs.Running.{NotMade, Made, NoText, NoBundle, TakesBundle}
 use Rattle.mk_top.proofs.Bundles.{of-given, text-given}
 use Rattle.mk_top.proofs.Counted.{counts-given}
 use Rattle.mk_top.proofs.Reported.{reports-given}
@@ -122,6 +132,13 @@ made-given command input bytes (Ok written) within read makes = record {
   makes = makes-given command (input_of command input.before) (input_of command input.after) bytes written read makes;
 }
 made-given command input bytes (Err fault) within read makes = tt
+
+-- and so is a bundle's text
+pub bundle-given : (command : Command) (input : Seen) (bytes : List ℕ) (r : Result Bundle Fault)
+    → length bytes ≤ limit_of command → IfSome (input_of command input.before) (λ rest. ReadsAll rest bytes (input_of command input.after))
+    → IfOk r (λ b. Makes command (Some bytes) (text b.code b.cert)) → IfOk r (λ b. Made command input (text b.code b.cert))
+bundle-given command input bytes (Ok b) within read makes = made-given command input bytes (Ok (text b.code b.cert)) within read makes
+bundle-given command input bytes (Err fault) within read makes = tt
 
 -- the fault of a refused evaluation has one of the answers of `eval`
 answer-of-eval : (ps ss : List ℕ) (r : Option EvalRefusal) (f : Fault) → Some f ≡ option_map fault_of_eval r → IsAnswerOf (Eval ps ss) (status_of f)
@@ -281,3 +298,104 @@ compiles-made order bytes written tree code cert source within correct maps priv
   },
   record { certified = certified; different = different; maps = maps },
 )
+
+-- what came up to the end is all that the input gave
+pub came-whole : (before after : Option (List ℕ)) (came : List ℕ) → Comes came before after → IfSome before (λ rest. after ≡ Some [])
+    → IfSome before (λ rest. ReadsAll rest came after)
+came-whole None after came comes end = tt
+came-whole (Some rest) after came comes end = record { whole = sym (comes.1 ∙ ap (λ (bs : List ℕ). came ++ bs) (none (sym comes.2 ∙ end)) ∙ append-nil came); end = end }
+  where
+    none : Some comes.0 ≡ Some [] → comes.0 ≡ []
+    none e = cc
+
+-- no more came than may come
+came-within : (before after : Option (List ℕ)) (came : List ℕ) (limit : ℕ) → length came ≤ limit → Comes came before after
+    → IfSome before (λ rest. CameWithin limit rest after)
+came-within None after came limit few comes = tt
+came-within (Some rest) after came limit few comes = record {
+  count = length came;
+  within = omega (arith, ap length comes.1 ∙ length-append came comes.0);
+  few = few;
+  taken = comes.2 ∙ ap (λ (bs : List ℕ). Some bs) (sym (ap (drop (length came)) comes.1 ∙ drop-append_seam came comes.0));
+}
+
+-- more came than may come
+came-long : (before after : Option (List ℕ)) (came : List ℕ) (limit : ℕ) → limit < length came → Comes came before after
+    → IfSome before (λ rest. limit < length rest)
+came-long None after came limit many comes = tt
+came-long (Some rest) after came limit many comes = omega (arith, ap length comes.1 ∙ length-append came comes.0, many)
+
+-- why no bundle was read, by the refusal
+denied : (command : Command) (input : Seen) (why : StreamRefusal) → (why ≡ refusals.Fault → Rose input.faults input.faults_after)
+    → Denies why MOST_BYTES [] input.before input.after → Reads command → limit_of command ≡ MOST_BYTES
+    → input_of command input.before ≡ input.before → input_of command input.after ≡ input.after
+    → ((line : ℕ) (bytes : List ℕ) → (IsBundleText bytes → ⊥) → NamesFirst IsBundleText line bytes → TextDecides command bytes (Some (fault_.Bundle line)))
+    → NoText command input (fault_of_bundle why)
+denied command input refusals.Fault rose denies reads limit before after decides = (
+  reads,
+  rose refl,
+  subst (λ (o : Option (List ℕ)). IfSome o (λ bytes. CameWithin (limit_of command) bytes (input_of command input.after))) (sym before)
+      (subst (λ (o : Option (List ℕ)). IfSome input.before (λ bytes. CameWithin (limit_of command) bytes o)) (sym after)
+      (subst (λ (n : ℕ). IfSome input.before (λ bytes. CameWithin n bytes input.after)) (sym limit)
+      (came-within input.before input.after denies.came MOST_BYTES denies.few denies.comes))),
+)
+denied command input refusals.TooLong rose denies reads limit before after decides = (
+  reads,
+  sym limit,
+  subst (λ (o : Option (List ℕ)). IfSome o (λ bytes. limit_of command < length bytes)) (sym before)
+      (subst (λ (n : ℕ). IfSome input.before (λ bytes. n < length bytes)) (sym limit)
+      (came-long input.before input.after denies.came MOST_BYTES denies.many denies.comes)),
+)
+denied command input (refusals.Form line) rose denies reads limit before after decides =
+    text-decides command input denies.came (fault_.Bundle line) (subst (λ (n : ℕ). length denies.came ≤ n) (sym limit) denies.within)
+    (subst (λ (o : Option (List ℕ)). IfSome o (λ rest. ReadsAll rest denies.came (input_of command input.after))) (sym before)
+    (subst (λ (o : Option (List ℕ)). IfSome input.before (λ rest. ReadsAll rest denies.came o)) (sym after)
+    (came-whole input.before input.after denies.came denies.comes denies.end)))
+    (decides line denies.came denies.only denies.first)
+denied command input refusals.Memory rose denies reads limit before after decides = tt
+
+-- the same for each command that reads a bundle
+pub no_bundle : (input : Seen) (why : StreamRefusal) → (why ≡ refusals.Fault → Rose input.faults input.faults_after)
+    → Denies why MOST_BYTES [] input.before input.after → NoBundle input (fault_of_bundle why)
+no_bundle input why rose denies Check takes = denied Check input why rose denies tt refl refl refl (λ line bytes only first. (first, only))
+no_bundle input why rose denies (Run ps ss tape) takes = denied (Run ps ss tape) input why rose denies tt refl refl refl (λ line bytes only first. (first, only))
+no_bundle input why rose denies (Count ps one two qs) takes = denied (Count ps one two qs) input why rose denies tt refl refl refl (λ line bytes only first. (first, only))
+no_bundle input why rose denies Report takes = denied Report input why rose denies tt refl refl refl (λ line bytes only first. (first, only))
+no_bundle input why rose denies (Compile order) takes = absurd takes
+no_bundle input why rose denies (Eval ps ss) takes = absurd takes
+no_bundle input why rose denies (Gen turns) takes = absurd takes
+no_bundle input why rose denies (Trial turns order) takes = absurd takes
+
+-- what a command makes of the text of a bundle that was read to its end
+pub made-collected : (command : Command) (input : Seen) (bundle : Bundle) (r : Result (List ℕ) Fault) → TakesBundle command
+    → Collected bundle MOST_BYTES input.before input.after
+    → ((bytes : List ℕ) → IsTextOf bytes bundle.code bundle.cert → IfOk r (Makes command (Some bytes))) → IfOk r (Made command input)
+made-collected Check input bundle r takes read makes =
+    made-given Check input read.came r read.within (came-whole input.before input.after read.came read.comes read.end) (makes read.came read.text)
+made-collected (Run ps ss tape) input bundle r takes read makes =
+    made-given (Run ps ss tape) input read.came r read.within (came-whole input.before input.after read.came read.comes read.end) (makes read.came read.text)
+made-collected (Count ps one two qs) input bundle r takes read makes =
+    made-given (Count ps one two qs) input read.came r read.within (came-whole input.before input.after read.came read.comes read.end) (makes read.came read.text)
+made-collected Report input bundle r takes read makes =
+    made-given Report input read.came r read.within (came-whole input.before input.after read.came read.comes read.end) (makes read.came read.text)
+made-collected (Compile order) input bundle r takes read makes = absurd takes
+made-collected (Eval ps ss) input bundle r takes read makes = absurd takes
+made-collected (Gen turns) input bundle r takes read makes = absurd takes
+made-collected (Trial turns order) input bundle r takes read makes = absurd takes
+
+-- and why it makes nothing of it
+pub no_text-collected : {X : Type 0} (command : Command) (input : Seen) (bundle : Bundle) (r : Result X Fault) → TakesBundle command
+    → Collected bundle MOST_BYTES input.before input.after
+    → ((bytes : List ℕ) → IsTextOf bytes bundle.code bundle.cert → IfErr r (NotMade command bytes)) → IfErr r (NoText command input)
+no_text-collected Check input bundle r takes read why =
+    no_text-given Check input read.came r read.within (came-whole input.before input.after read.came read.comes read.end) (why read.came read.text)
+no_text-collected (Run ps ss tape) input bundle r takes read why =
+    no_text-given (Run ps ss tape) input read.came r read.within (came-whole input.before input.after read.came read.comes read.end) (why read.came read.text)
+no_text-collected (Count ps one two qs) input bundle r takes read why =
+    no_text-given (Count ps one two qs) input read.came r read.within (came-whole input.before input.after read.came read.comes read.end) (why read.came read.text)
+no_text-collected Report input bundle r takes read why =
+    no_text-given Report input read.came r read.within (came-whole input.before input.after read.came read.comes read.end) (why read.came read.text)
+no_text-collected (Compile order) input bundle r takes read why = absurd takes
+no_text-collected (Eval ps ss) input bundle r takes read why = absurd takes
+no_text-collected (Gen turns) input bundle r takes read why = absurd takes
+no_text-collected (Trial turns order) input bundle r takes read why = absurd takes

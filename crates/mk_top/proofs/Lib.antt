@@ -3,6 +3,9 @@ pub mod Causes
 pub mod Texts
 pub mod Bundles
 pub mod Given
+pub mod Events
+pub mod Progress
+pub mod Judging
 pub mod Deciding
 pub mod Ends
 pub mod Lines

@@ -10,8 +10,9 @@ use Rattle.mk_run.specs.declared.refusal.CountRefusal.{CountRefusal}
 use Rattle.mk_run.specs.declared.refusal.CountRefusal.TheVariants as count
 use Rattle.mk_check.specs.declared.refusal.CheckRefusal.{CheckRefusal}
 use Rattle.mk_check.specs.declared.refusal.CheckRefusal.TheVariants as refused
-use Rattle.mk_bundle.specs.declared.read.BundleRefusal.{BundleRefusal}
-use Rattle.mk_bundle.specs.declared.read.BundleRefusal.TheVariants as bundle
+use Rattle.mk_bundle.specs.declared.TheConstants.{MOST_BYTES}
+use Rattle.mk_bundle.specs.declared.refusal.StreamRefusal.{StreamRefusal}
+use Rattle.mk_bundle.specs.declared.refusal.StreamRefusal.TheVariants as stream
 use Rattle.mk_words.specs.declared.status.Status.{Status}
 use Rattle.mk_words.specs.declared.status.Status.TheVariants as status
 use Rattle.mk_top.specs.declared.fault.Fault.{Fault}
@@ -21,10 +22,12 @@ use Rattle.mk_words.specs.declared.fault.InputFault.TheVariants as input
 use Rattle.mk_words.specs.declared.fault.CheckFault.TheVariants as check
 use Rattle.mk_words.specs.Lines.{numbered_line, source_line, input_line, check_line}
 
--- the fault of a refused bundle text
-abbrev pub fault_of_bundle : BundleRefusal → Fault
-fault_of_bundle (bundle.Form line) = fault.Bundle line
-fault_of_bundle bundle.Memory = fault.Memory
+-- the fault of a bundle's text that is not read, or refused
+abbrev pub fault_of_bundle : StreamRefusal → Fault
+fault_of_bundle stream.Fault = fault.ReadFault
+fault_of_bundle stream.TooLong = fault.TooLong MOST_BYTES
+fault_of_bundle (stream.Form line) = fault.Bundle line
+fault_of_bundle stream.Memory = fault.Memory
 
 -- the fault of a refused source
 abbrev pub fault_of_source : SourceRefusal → Fault

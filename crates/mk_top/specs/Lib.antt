@@ -9,3 +9,4 @@ pub mod Decided
 pub mod Headline
 pub mod Because
 pub mod Running
+pub mod Reading

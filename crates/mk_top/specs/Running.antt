@@ -1,11 +1,20 @@
 -- What the steps of a run answer, for the functions that carry them out.
-use Rattle.std.specs.Prelude.{◌≡◌, ◌⊎◌, ℕ, ◌<◌, List, Some, IfSome, length}
+use Rattle.std.specs.Prelude.{◌≡◌, ◌⊎◌, ℕ, ◌<◌, ◌≤◌, List, Option, Some, IfSome, Result, Ok, Err, length}
 use Rattle.mk_base.specs.Outside.{Rose}
-use Rattle.mk_base.specs.Streams.{CameWithin}
+use Rattle.mk_base.specs.Streams.{CameWithin, ReadsAll}
+use Rattle.mk_code.specs.Listing.{Listing}
+use Rattle.mk_rules.specs.Claimed.{Claimed}
+use Rattle.mk_rules.specs.Accepts.{IsAccepted}
+use Rattle.mk_bundle.specs.declared.TheConstants.{MOST_BYTES}
+use Rattle.mk_bundle.specs.Pairs.{IsTextOf}
+use Rattle.mk_rules.specs.Pairs.{IsPair}
+use Rattle.mk_bundle.specs.Text.{text}
+use Rattle.mk_top.specs.declared.answer.Answer.{Answer}
+use Rattle.mk_top.specs.declared.answer.Answer.TheVariants as answer
 use Rattle.mk_top.specs.declared.fault.Fault.{Fault}
 use Rattle.mk_top.specs.declared.fault.Fault.TheVariants.{Words, Source, ReadFault, WriteFault, Memory, TooLong}
 use Rattle.mk_top.specs.Seen.{Seen}
-use Rattle.mk_words.specs.Words.{Command, Asks, IsNoForm}
+use Rattle.mk_words.specs.Words.{Command, Check, Run, Count, Report, Asks, IsNoForm}
 use Rattle.mk_top.specs.Decided.{SourceDecides, TextDecides, limit_of}
 use Rattle.mk_top.specs.Headline.{Makes, TakesWhole, TakesSome}
 use Rattle.mk_top.specs.Because.{ReadWhole, input_of, Reads, IsAnswerOf}
@@ -49,14 +58,51 @@ NoText command input fault =
     × ReadWhole (limit_of command) (input_of command input.before) (input_of command input.after)
     × IsAnswerOf command (status_of fault)
 
+-- the command reads a bundle
+abbrev pub TakesBundle : Command → Type 0
+TakesBundle Check = Unit {0}
+TakesBundle (Run publics secrets tape) = Unit {0}
+TakesBundle (Count publics first second probes) = Unit {0}
+TakesBundle Report = Unit {0}
+TakesBundle command = ⊥
+
+-- why a command that reads a bundle has no text: its input gives none
+abbrev pub NoBundle : Seen → Fault → Type 0
+NoBundle input fault = (command : Command) → TakesBundle command → NoText command input fault
+
+-- the input gave a bundle's text to its end, and the rule accepts the code with its certificate
+pub record Checked (before after : Option (List ℕ)) : Type 0 where
+  pub bytes : List ℕ
+  pub code : Listing
+  pub cert : Claimed
+  pub text : IsTextOf bytes code cert
+  pub accepted : IsAccepted code cert
+  pub within : length bytes ≤ MOST_BYTES
+  pub whole : IfSome before (λ rest. ReadsAll rest bytes after)
+
 -- the text that a command made of its input, which was read to its end
 pub record Made (command : Command) (input : Seen) (written : List ℕ) : Type 0 where
   pub read : ReadWhole (limit_of command) (input_of command input.before) (input_of command input.after)
   pub makes : Makes command (input_of command input.before) written
 
--- the same of the command that the words ask for
-abbrev pub IsMade : List (List ℕ) → Seen → List ℕ → Type 0
-IsMade words input written = (command : Command) × Asks words command × Made command input written
+-- the text of an answer: its own, or that of its bundle
+abbrev pub text_of : Answer → List ℕ
+text_of (answer.Text bytes) = bytes
+text_of (answer.Bundle bundle) = text bundle.code bundle.cert
+
+-- an answer can be written: a bundle's code and certificate are a pair
+abbrev pub HasText : Answer → Type 0
+HasText (answer.Text bytes) = Unit {0}
+HasText (answer.Bundle bundle) = IsPair bundle.code bundle.cert
+
+-- what was made, as an answer
+abbrev pub answered : {X : Type 0} → (X → Answer) → Result X Fault → Result Answer Fault
+answered form (Ok made) = Ok (form made)
+answered form (Err fault) = Err fault
+
+-- what the command that the words ask for answers, which can be written
+abbrev pub IsMade : List (List ℕ) → Seen → Answer → Type 0
+IsMade words input made = (command : Command) × Asks words command × Made command input (text_of made) × HasText made
 
 -- why there is no text: the words are no form, or the command that they ask for has none for its input
 abbrev pub IsUnmade : List (List ℕ) → Seen → Fault → Type 0

@@ -1,9 +1,9 @@
 //! Counts: a bundle read, and the tapes of its code counted in two worlds.
 
-ghost use Rattle.std.specs.Prelude.{◌≡◌, ◌++◌, ◌≤◌, ◌<◌, ◌^◌, Some, IfOk, IfErr, OnOk, length};
+ghost use Rattle.std.specs.Prelude.{◌≡◌, ◌++◌, ◌≤◌, ◌<◌, ◌^◌, ℕ, List, Some, IfOk, IfErr, OnOk, length};
 ghost use Rattle.std.specs.Prelude.{string_bytes, nat_eq, flat_map};
 ghost use Rattle.std.specs.List.{list_all};
-ghost use Rattle.mk_bundle.specs.declared.TheConstants.{MOST_BYTES};
+ghost use Rattle.mk_bundle.specs.Pairs.{IsTextOf};
 ghost use Rattle.mk_words.specs.Words.{Count};
 ghost use Rattle.mk_top.specs.Counts.{Counts, row_line, table_text};
 ghost use Rattle.mk_top.specs.Seen.{seen};
@@ -11,9 +11,9 @@ ghost use Rattle.mk_top.specs.Running.{NotMade, Made, NoText};
 
 use crate::fault::Fault;
 use crate::outputs::bytes_of;
-use crate::reading::whole_text;
+use crate::reading::whole_bundle;
 use mk_base::{Bytes, Memory, Source};
-use mk_bundle::{MOST_BYTES, read_bundle};
+use mk_rules::Bundle;
 use mk_run::{Row, count};
 use mk_words::push_elements;
 use std::alloc::Global;
@@ -60,24 +60,24 @@ fn table_lines(alloc: Global, rows: &[Row]) -> Result<Bytes, Memory>
     bytes_of(text)
 }
 
-/// The lines of the table of the code of a bundle that a text spells.
+/// The lines of the table of the code of a bundle.
 fn count_of(
     alloc: Global,
-    text: &[u8],
+    bundle: &Bundle,
     publics: &[u8],
     first: &[u8],
     second: &[u8],
     probes: &[u32],
 ) -> Result<Bytes, Fault>
-    requires within { length text.now ≤ MOST_BYTES }
     requires publics { length publics.now < 2 ^ 32 }
     requires first { length first.now < 2 ^ 32 }
     requires second { length second.now < 2 ^ 32 }
     requires probes { length probes.now < 2 ^ 32 }
-    ensures counts { IfOk result (Counts publics.now first.now second.now probes.now (Some text.now)) }
-    ensures fault { IfErr result (NotMade (Count publics.now first.now second.now probes.now) text.now) }
+    ensures counts { (text : List ℕ) → IsTextOf text bundle.now.code bundle.now.cert
+        → IfOk result (Counts publics.now first.now second.now probes.now (Some text)) }
+    ensures fault { (text : List ℕ) → IsTextOf text bundle.now.code bundle.now.cert
+        → IfErr result (NotMade (Count publics.now first.now second.now probes.now) text) }
 {
-    let bundle = read_bundle(alloc, text)?;
     let table = count(alloc, &bundle.code, publics, first, second, probes)?;
     Ok(table_lines(alloc, table.as_slice())?)
 }
@@ -101,6 +101,6 @@ pub(crate) fn counted_text<S: Source>(
         (seen S.left S.faults src.old src.new)) }
     ensures reads { S.faults src.old ≤ S.faults src.new }
 {
-    let text = whole_text(alloc, src, MOST_BYTES)?;
-    count_of(alloc, text.as_slice(), publics, first, second, probes)
+    let bundle = whole_bundle(alloc, src)?;
+    count_of(alloc, &bundle, publics, first, second, probes)
 }

@@ -3,7 +3,7 @@ ghost use Rattle.mk_top.specs.Faults.{status_of, fault_line};
 
 use mk_ast::SourceRefusal;
 use mk_base::Memory;
-use mk_bundle::BundleRefusal;
+use mk_bundle::{MOST_BYTES, StreamRefusal};
 use mk_check::CheckRefusal;
 use mk_eval::EvalRefusal;
 use mk_run::{CountRefusal, RunRefusal};
@@ -45,16 +45,18 @@ impl From<Memory> for Fault {
     }
 }
 
-impl From<BundleRefusal> for Fault {
+impl From<StreamRefusal> for Fault {
     ghost use Rattle.std.specs.Prelude.{◌≡◌};
     ghost use Rattle.mk_top.specs.Faults.{fault_of_bundle};
 
     ghost from_gives = { λ refusal fault. fault ≡ fault_of_bundle refusal };
 
-    fn from(refusal: BundleRefusal) -> Fault {
+    fn from(refusal: StreamRefusal) -> Fault {
         match refusal {
-            BundleRefusal::Form { line } => Fault::Bundle { line },
-            BundleRefusal::Memory => Fault::Memory,
+            StreamRefusal::Fault => Fault::ReadFault,
+            StreamRefusal::TooLong => Fault::TooLong { limit: MOST_BYTES },
+            StreamRefusal::Form { line } => Fault::Bundle { line },
+            StreamRefusal::Memory => Fault::Memory,
         }
     }
 }

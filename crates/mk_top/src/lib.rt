@@ -3,6 +3,7 @@
 //! answer means.
 #![tactic(auto)]
 
+mod answer;
 mod bundle;
 mod counts;
 mod fault;
@@ -16,5 +17,6 @@ mod trials;
 
 pub use fault::Fault;
 pub use mk_gen::gen_text;
+pub use mk_parse::MOST_SOURCE_BYTES;
 pub use mk_words::{Status, code_of};
 pub use top::mask_main;

@@ -1,7 +1,7 @@
 //! Runs of the code of a bundle.
 
-ghost use Rattle.std.specs.Prelude.{◌≡◌, ◌⊎◌, ◌≤◌, ◌<◌, ◌^◌, Some, None, IfOk, IfErr, length};
-ghost use Rattle.mk_bundle.specs.declared.TheConstants.{MOST_BYTES};
+ghost use Rattle.std.specs.Prelude.{◌≡◌, ◌⊎◌, ◌≤◌, ◌<◌, ◌^◌, ℕ, List, Some, None, IfOk, IfErr, length};
+ghost use Rattle.mk_bundle.specs.Pairs.{IsTextOf};
 ghost use Rattle.mk_code.specs.Private.{masked_trace};
 ghost use Rattle.mk_run.specs.Refusals.{whole_refusal};
 ghost use Rattle.mk_run.specs.declared.refusal.RunRefusal.TheVariants as refusal_;
@@ -13,10 +13,10 @@ ghost use Rattle.mk_top.specs.Running.{NotMade, Made, NoText};
 
 use crate::fault::Fault;
 use crate::outputs::outputs_text;
-use crate::reading::whole_text;
+use crate::reading::whole_bundle;
 use mk_base::{Bytes, Source};
-use mk_bundle::{MOST_BYTES, read_bundle};
 use mk_code::Code;
+use mk_rules::Bundle;
 use mk_run::{RunRefusal, run_masked, tape_from_seed, tape_len_of};
 use std::alloc::Global;
 
@@ -77,22 +77,22 @@ fn text_of_run(
     }
 }
 
-/// The lines of the outputs of a run of the bundle that a text spells.
+/// The lines of the outputs of a run of a bundle.
 fn run_of(
     alloc: Global,
-    text: &[u8],
+    bundle: &Bundle,
     publics: &[u8],
     secrets: &[u8],
     tape: WholeTape<'_>,
 ) -> Result<Bytes, Fault>
-    requires within { length text.now ≤ MOST_BYTES }
     requires publics { length publics.now < 2 ^ 32 }
     requires secrets { length secrets.now < 2 ^ 32 }
     requires tape { IsShort tape }
-    ensures runs { IfOk result (Runs publics.now secrets.now (given_of tape.entry) (Some text.now)) }
-    ensures fault { IfErr result (NotMade (Run publics.now secrets.now (given_of tape.entry)) text.now) }
+    ensures runs { (text : List ℕ) → IsTextOf text bundle.now.code bundle.now.cert
+        → IfOk result (Runs publics.now secrets.now (given_of tape.entry) (Some text)) }
+    ensures fault { (text : List ℕ) → IsTextOf text bundle.now.code bundle.now.cert
+        → IfErr result (NotMade (Run publics.now secrets.now (given_of tape.entry)) text) }
 {
-    let bundle = read_bundle(alloc, text)?;
     Ok(text_of_run(alloc, &bundle.code, publics, secrets, tape)?)
 }
 
@@ -113,6 +113,6 @@ pub(crate) fn ran_text<S: Source>(
         (seen S.left S.faults src.old src.new)) }
     ensures reads { S.faults src.old ≤ S.faults src.new }
 {
-    let text = whole_text(alloc, src, MOST_BYTES)?;
-    run_of(alloc, text.as_slice(), publics, secrets, tape)
+    let bundle = whole_bundle(alloc, src)?;
+    run_of(alloc, &bundle, publics, secrets, tape)
 }

@@ -5,6 +5,8 @@ ghost use Rattle.mk_code.specs.declared.TheConstants.{MOST_MAPS};
 ghost use Rattle.mk_parse.specs.declared.TheConstants.{MOST_SOURCE_BYTES};
 ghost use Rattle.mk_base.specs.declared.TheConstants.{TOP_ORDER};
 ghost use Rattle.mk_types.specs.Elements.{maps_of};
+ghost use Rattle.mk_rules.specs.Pairs.{IsPair};
+ghost use Rattle.mk_bundle.specs.Text.{text};
 ghost use Rattle.mk_words.specs.Words.{Compile, Eval};
 ghost use Rattle.mk_top.specs.Headline.{CompilesSo, Evaluates};
 ghost use Rattle.mk_top.specs.Sources.{IsSourceOf};
@@ -15,10 +17,10 @@ use crate::fault::Fault;
 use crate::outputs::elements_line;
 use crate::reading::whole_text;
 use mk_base::{Bytes, Source};
-use mk_bundle::to_text;
 use mk_compile::compile;
 use mk_eval::eval;
 use mk_parse::{MOST_SOURCE_BYTES, parse};
+use mk_rules::Bundle;
 use mk_types::{Typed, check_types};
 use std::alloc::Global;
 
@@ -33,16 +35,16 @@ pub(crate) fn typed_source(alloc: Global, source: &[u8]) -> Result<Typed, Fault>
     Ok(check_types(alloc, tree)?)
 }
 
-/// The bundle text that a source is compiled to at an order.
-fn text_of_source(alloc: Global, source: &[u8], order: u8) -> Result<Bytes, Fault>
+/// The bundle that a source is compiled to at an order.
+fn bundle_of_source(alloc: Global, source: &[u8], order: u8) -> Result<Bundle, Fault>
     requires order { (1 ≤ order) × (order ≤ TOP_ORDER) }
     requires within { length source.now ≤ MOST_SOURCE_BYTES }
-    ensures compiled { IfOk result (CompilesSo order (Some source.now)) }
+    ensures compiled { IfOk result (λ bundle. CompilesSo order (Some source.now) (text bundle.code bundle.cert)) }
+    ensures pair { IfOk result (λ bundle. IsPair bundle.code bundle.cert) }
     ensures fault { IfErr result (NotMade (Compile order) source.now) }
 {
     let typed = typed_source(alloc, source)?;
-    let bundle = compile(alloc, &typed, order)?;
-    Ok(to_text(alloc, &bundle.code, &bundle.cert)?)
+    Ok(compile(alloc, &typed, order)?)
 }
 
 /// The line of the outputs that a source is evaluated to on these elements.
@@ -63,19 +65,21 @@ fn text_of_outputs(
     Ok(elements_line(alloc, outputs.as_slice())?)
 }
 
-/// Reads a source to its end, and answers the bundle text that it is compiled to at an order.
-pub(crate) fn compiled_text<S: Source>(
+/// Reads a source to its end, and answers the bundle that it is compiled to at an order.
+pub(crate) fn compiled_bundle<S: Source>(
     alloc: Global,
     src: &mut S,
     order: u8,
-) -> Result<Bytes, Fault>
+) -> Result<Bundle, Fault>
     requires { (1 ≤ order) × (order ≤ TOP_ORDER) }
-    ensures made { IfOk result (Made (Compile order) (seen S.left S.faults src.old src.new)) }
+    ensures made { IfOk result (λ bundle. Made (Compile order) (seen S.left S.faults src.old src.new)
+        (text bundle.code bundle.cert)) }
+    ensures pair { IfOk result (λ bundle. IsPair bundle.code bundle.cert) }
     ensures unmade { IfErr result (NoText (Compile order) (seen S.left S.faults src.old src.new)) }
     ensures reads { S.faults src.old ≤ S.faults src.new }
 {
     let source = whole_text(alloc, src, MOST_SOURCE_BYTES)?;
-    text_of_source(alloc, source.as_slice(), order)
+    bundle_of_source(alloc, source.as_slice(), order)
 }
 
 /// Reads a source to its end, and answers the line of the outputs that it is evaluated to.

@@ -18,27 +18,17 @@ ghost use Rattle.mk_top.specs.Runs.{Runs};
 ghost use Rattle.mk_top.specs.Counts.{Counts};
 ghost use Rattle.mk_top.specs.Running.{Finished, Stopped, ReadsOrLeaves, Made, NoText, IsMade, IsUnmade};
 
+use crate::answer::{Answer, bundle_answer, text_answer};
 use crate::bundle::checked_text;
 use crate::counts::counted_text;
 use crate::fault::Fault;
 use crate::reports::reported_text;
 use crate::runs::{WholeTape, ran_text};
-use crate::source::{compiled_text, evaluated_text};
+use crate::source::{compiled_bundle, evaluated_text};
 use crate::trials::{generated_text, tried_text};
 use mk_base::{Bytes, Sink, Source, Words, write_all};
 use mk_words::{Form, Status, TapeForm, elements_of, form_asked, probes_of};
 use std::alloc::Global;
-
-/// Writes a text whole to the output.
-fn put<O: Sink>(out: &mut O, text: &[u8]) -> Result<(), Fault>
-    ensures whole { OnOk result (TakesWhole (O.taken out.old) text.now (O.taken out.new)) }
-    ensures fault { IfErr result (λ fault. fault ≡ Fault.WriteFault) }
-    ensures cut { IfErr result (λ _. TakesSome (O.taken out.old) text.now (O.taken out.new)) }
-    ensures rose { IfErr result (λ _. Rose (O.faults out.old) (O.faults out.new)) }
-    ensures never_falls { O.faults out.old ≤ O.faults out.new }
-{
-    write_all(out, text).map_err(|_| Fault::WriteFault)
-}
 
 /// Tells a fault by its line. Whether the line was taken changes nothing.
 fn tell<E: Sink>(err: &mut E, fault: Fault)
@@ -141,8 +131,8 @@ fn counted_on_words<S: Source>(
     )
 }
 
-/// The text that the command makes which the words ask for. Nothing of it is written yet.
-fn text_asked<S: Source>(alloc: Global, words: &Words, src: &mut S) -> Result<Bytes, Fault>
+/// What the command answers which the words ask for. Nothing of it is written yet.
+fn answer_asked<S: Source>(alloc: Global, words: &Words, src: &mut S) -> Result<Answer, Fault>
     ensures made { IfOk result (IsMade words.now (seen S.left S.faults src.old src.new)) }
     ensures unmade { IfErr result (IsUnmade words.now
         (seen S.left S.faults src.old src.new)) }
@@ -152,10 +142,10 @@ fn text_asked<S: Source>(alloc: Global, words: &Words, src: &mut S) -> Result<By
 {
     match form_asked(words) {
         None => Err(Fault::Words),
-        Some(Form::Compile { order }) => compiled_text(alloc, src, order),
-        Some(Form::Check) => checked_text(alloc, src),
+        Some(Form::Compile { order }) => bundle_answer(compiled_bundle(alloc, src, order)),
+        Some(Form::Check) => text_answer(checked_text(alloc, src)),
         Some(Form::Eval { publics, secrets }) => {
-            evaluated_on_words(alloc, src, publics, secrets)
+            text_answer(evaluated_on_words(alloc, src, publics, secrets))
         }
         Some(
             Form::Run {
@@ -163,7 +153,7 @@ fn text_asked<S: Source>(alloc: Global, words: &Words, src: &mut S) -> Result<By
                 secrets,
                 tape,
             },
-        ) => run_on_words(alloc, src, publics, secrets, tape),
+        ) => text_answer(run_on_words(alloc, src, publics, secrets, tape)),
         Some(
             Form::Count {
                 publics,
@@ -171,14 +161,14 @@ fn text_asked<S: Source>(alloc: Global, words: &Words, src: &mut S) -> Result<By
                 second,
                 probes,
             },
-        ) => counted_on_words(alloc, src, publics, first, second, probes),
-        Some(Form::Report) => reported_text(alloc, src),
-        Some(Form::Gen { turns }) => generated_text(alloc, turns),
-        Some(Form::Trial { turns, order }) => tried_text(alloc, turns, order),
+        ) => text_answer(counted_on_words(alloc, src, publics, first, second, probes)),
+        Some(Form::Report) => text_answer(reported_text(alloc, src)),
+        Some(Form::Gen { turns }) => text_answer(generated_text(alloc, turns)),
+        Some(Form::Trial { turns, order }) => text_answer(tried_text(alloc, turns, order)),
     }
 }
 
-/// Carries out what the words ask for: its text is made, and then written.
+/// Carries out what the words ask for: its answer is made, and then written.
 fn carry_out<S: Source, O: Sink>(
     alloc: Global,
     words: &Words,
@@ -197,8 +187,8 @@ fn carry_out<S: Source, O: Sink>(
     ensures reads { S.faults src.old ≤ S.faults src.new }
     ensures writes { O.faults out.old ≤ O.faults out.new }
 {
-    let text = text_asked(alloc, words, src)?;
-    put(out, text.as_slice())
+    let answer = answer_asked(alloc, words, src)?;
+    answer.write(out)
 }
 
 /// Carries out the command that the words ask for, reading from `src`, writing its text to `out` and,

@@ -4,6 +4,7 @@
 use Rattle.std.specs.Prelude.{◌≡◌, Bool, true, false, ◌&&◌, ◌||◌, not, List, [], ◌∷◌, ◌++◌, Option, Some, None, is_some, ℕ, nat_lt, ◌==◌, length, flat_map}
 use Rattle.mk_base.specs.declared.Place.{Place}
 use Rattle.mk_field.specs.declared.field.FieldId.{FieldId}
+use Rattle.mk_field.specs.Field.{has_maps}
 use Rattle.mk_field.specs.declared.field.FieldId.TheVariants.{Gf2, Gf256}
 use Rattle.mk_ast.specs.declared.tree.Program.{Program}
 use Rattle.mk_ast.specs.declared.tree.Decl.{Decl}
@@ -124,8 +125,7 @@ stmt_offences = fold-Stmt (Scope → List Offence) stmt_layer_offences
 
 -- whether a map is none that the field has: maps are over the field of 256 elements, with eight images
 abbrev pub is_no_map_of : FieldId → What → Bool
-is_no_map_of Gf2 (what.Map images) = true
-is_no_map_of Gf256 (what.Map images) = not (length images == 8)
+is_no_map_of field (what.Map images) = not (has_maps field && length images == 8)
 is_no_map_of field (what.Var class size) = false
 
 -- the offences of a declaration behind these ones

@@ -65,9 +65,8 @@ pub(crate) fn is_no_variable_so(what: Option<&What>, indexed: bool) -> bool
 pub(crate) fn is_no_map_of(field: FieldId, what: &What) -> bool
     ensures { result ≡ is_no_map_of field what.now }
 {
-    match (field, what) {
-        (_, What::Var { .. }) => false,
-        (FieldId::Gf2, What::Map { .. }) => true,
-        (FieldId::Gf256, What::Map { images }) => images.len() != 8,
+    match what {
+        What::Var { .. } => false,
+        What::Map { images } => !(field.has_maps() && images.len() == 8),
     }
 }

@@ -4,6 +4,7 @@ use Rattle.std.proofs.Common.{◌≡◌, ℕ, ◌+◌, ◌≤◌, Bool, true, fa
 use Rattle.std.specs.Prelude.{fold}
 use Rattle.std.specs.List.{AllByRecursion}
 use Rattle.std.proofs.lemmas.List.Sums.{sum_by-cons}
+use Rattle.mk_types.specs.declared.TheConstants.{MOST_WORK, MOST_OPERATIONS}
 use Rattle.mk_ast.specs.declared.tree.Program.{Program}
 use Rattle.mk_ast.specs.declared.tree.Decl.{Decl}
 use Rattle.mk_ast.specs.declared.tree.Stmt.{Stmt}
@@ -151,9 +152,9 @@ pub unrolled_lifts : (p : Program) → stop (units p) ≡ None → lifts (unroll
 unrolled_lifts p ended = omega (arith, unrolled_lifts_steps p ended)
 
 -- at most 16,384 values are no constant and no lift
-pub unrolled_made_at_most : (p : Program) → stop (units p) ≡ None → made (unrolled p).values ≤ 16384
+pub unrolled_made_at_most : (p : Program) → stop (units p) ≡ None → made (unrolled p).values ≤ MOST_OPERATIONS
 unrolled_made_at_most p ended = omega (arith, unrolled_made p ended, operations_at_most p ended)
 
 -- at most 65,537 values are lifts
-pub unrolled_lifts_at_most : (p : Program) → stop (units p) ≡ None → lifts (unrolled p).values ≤ 65537
+pub unrolled_lifts_at_most : (p : Program) → stop (units p) ≡ None → lifts (unrolled p).values ≤ MOST_WORK + 1
 unrolled_lifts_at_most p ended = omega (arith, unrolled_lifts p ended, work_at_most p ended)

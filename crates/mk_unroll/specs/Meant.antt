@@ -1,7 +1,7 @@
 -- What the values of a source stand for, and how many there are.
 use Rattle.std.specs.Prelude.{◌≡◌, ℕ, ◌+◌, ◌*◌, ◌≤◌, ◌<◌, List, Some, All, length}
 use Rattle.mk_unroll.specs.declared.TheConstants.{MOST_ELEMENTS, MOST_SIZE}
-use Rattle.mk_types.specs.declared.TheConstants.{MOST_OPERATIONS}
+use Rattle.mk_types.specs.declared.TheConstants.{MOST_OPERATIONS, MOST_WORK}
 use Rattle.mk_field.specs.Field.{size}
 use Rattle.mk_ast.specs.declared.tree.Program.{Program}
 use Rattle.mk_ssa.specs.Values.{Values}
@@ -22,6 +22,6 @@ HasMeaning p s =
 -- most 1,000,000
 pub record HasFewValues (s : Values) (order : ℕ) : Type 0 where
   pub ends : s.secrets + s.publics + length s.outs ≤ MOST_ELEMENTS
-  pub lifted : lifts s.values ≤ 65537
+  pub lifted : lifts s.values ≤ MOST_WORK + 1
   pub operators : made s.values ≤ MOST_OPERATIONS
   pub size : made s.values * ((order + 1) * (order + 1)) ≤ MOST_SIZE

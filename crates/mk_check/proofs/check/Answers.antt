@@ -1,24 +1,16 @@
--- The templates are those of the rule, and what is accepted is private.
-use Rattle.std.proofs.Common.{ℕ, ◌+◌, ap, ◌∙◌}
-use Rattle.mk_rules.specs.Shape.{shape_of}
-use Rattle.mk_check.specs.Gadgets.{built_in_gadgets}
-use Rattle.mk_check.proofs.Verdicts.{built_in-stand, accepted-built_in, refused-built_in, ok-private}
+-- What is accepted is private.
+use Rattle.std.proofs.Common.{OnOk, sym, subst, ◌∙◌}
+use Rattle.mk_rules.specs.Accepts.{IsAccepted}
+use Rattle.mk_rules.specs.Claimed.{Claimed}
+use Rattle.mk_check.specs.Outlines.{IsOver}
+use Rattle.mk_check.specs.declared.outline.Outline.{Outline}
+use Rattle.mk_check.proofs.Verdicts.{ok-private}
 use Rattle.mk_check.proofs.check.Goals as goal
 
-pub verdict-requires-clause-templates : goal.verdict-requires-clause-templates
-verdict-requires-clause-templates c =
-    built_in-stand (shape_of c.args.code.now) c.in_ok-templates.templates c.args.cert.now.blocks
-    (c.in_ok-templates.ensures.built_in ∙ ap built_in_gadgets (c.in_ok-templates.ensures.shares ∙ ap (λ (n : ℕ). n + 1) c.order.ensures))
-
-pub returns-clause-accepted : goal.returns-clause-accepted
-returns-clause-accepted c =
-    accepted-built_in c.args.code.now c.in_ok-templates.templates c.args.cert.now c.verdict.result
-    (c.in_ok-templates.ensures.built_in ∙ ap built_in_gadgets (c.in_ok-templates.ensures.shares ∙ ap (λ (n : ℕ). n + 1) c.order.ensures)) c.verdict.ensures.accepted
-
 pub returns-clause-private : goal.returns-clause-private
-returns-clause-private c = ok-private c.args.code.now c.args.cert.now c.law.ensures.images c.verdict.result (returns-clause-accepted c)
-
-pub returns-clause-refused : goal.returns-clause-refused
-returns-clause-refused c =
-    refused-built_in c.args.code.now c.in_ok-templates.templates c.args.cert.now c.verdict.result
-    (c.in_ok-templates.ensures.built_in ∙ ap built_in_gadgets (c.in_ok-templates.ensures.shares ∙ ap (λ (n : ℕ). n + 1) c.order.ensures)) c.verdict.ensures.refused
+returns-clause-private c =
+    let over : IsOver c.args.code.now c.give_outs.new.checker.outline =
+    subst (λ (o : Outline). IsOver c.args.code.now o) (sym (c.give_outs.ensures.same.0 ∙ c.give_instrs.ensures.same.0)) c.in_ok-checker.ensures.over in
+    ok-private c.args.code.now c.args.cert.now c.law.ensures.images c.finish.result
+    (subst (λ (cert : Claimed). OnOk c.finish.result (IsAccepted c.args.code.now cert)) (c.give_outs.ensures.same.1 ∙ c.give_instrs.ensures.same.1 ∙ c.in_ok-checker.ensures.cert)
+    (c.finish.ensures.accepted c.args.code.now over c.give_outs.ensures.given))

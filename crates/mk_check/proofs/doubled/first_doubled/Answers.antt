@@ -1,12 +1,12 @@
 -- The first clash of a batch is the first doubled value, and where there is none the next batch follows.
 use Rattle.std.proofs.Common.{arith}
-use Rattle.mk_rules.specs.Shape.{shape_of}
+use Rattle.mk_check.specs.Outlines.{outlined}
 use Rattle.mk_check.proofs.Marking.{batch-own, numbered-few, both-doubled, clash-none, clash-first, all-undoubled}
 use Rattle.mk_check.proofs.doubled.first_doubled.Goals as goal
 
 pub block_of-block-requires-clause-there : goal.block_of-block-requires-clause-there
 block_of-block-requires-clause-there c =
-    let shape = shape_of c.args.code.now in
+    let shape = outlined c.args.outline.now in
     let batch = c.next_batch-batch.result in
     let own = batch-own c.args.blocks.now c.loop-from.from batch c.next_batch-batch.ensures in
     let found = both-doubled shape c.args.blocks.now batch c.requires.wired own c.mark_all.new.marks c.mark_all.ensures c.in-Some.clash.product
@@ -15,7 +15,7 @@ block_of-block-requires-clause-there c =
 
 pub returns-in-Some-clause-first : goal.returns-in-Some-clause-first
 returns-in-Some-clause-first c =
-    let shape = shape_of c.args.code.now in
+    let shape = outlined c.args.outline.now in
     let batch = c.next_batch-batch.result in
     let own = batch-own c.args.blocks.now c.loop-from.from batch c.next_batch-batch.ensures in
     clash-first shape c.args.blocks.now batch c.requires.wired own c.mark_all.new.marks c.mark_all.ensures
@@ -25,7 +25,7 @@ returns-in-Some-clause-first c =
 
 pub loop-from-preserved : goal.loop-from-preserved
 loop-from-preserved c =
-    let shape = shape_of c.args.code.now in
+    let shape = outlined c.args.outline.now in
     let batch = c.next_batch-batch.result in
     let own = batch-own c.args.blocks.now c.loop-from.from batch c.next_batch-batch.ensures in
     record {
@@ -38,4 +38,4 @@ loop-from-preserved c =
 
 pub returns-clause-none : goal.returns-clause-none
 returns-clause-none c =
-    all-undoubled (shape_of c.args.code.now) c.args.blocks.now c.loop-from.from c.loop-from-test.false c.loop-from.invariant.none
+    all-undoubled (outlined c.args.outline.now) c.args.blocks.now c.loop-from.from c.loop-from-test.false c.loop-from.invariant.none

@@ -69,8 +69,8 @@ pub push-product-requires-clause-fits : goal.push-product-requires-clause-fits
 push-product-requires-clause-fits g c =
     let one : HasPushed c.loop-high.builder c.push-sum.new.self = pushed-numbers c.loop-high.builder c.push-sum.new.self instr.Rnd c.push-sum.ensures.pushed in
     let len : draft_len c.args.builder.now ≤ draft_len c.loop-high.builder = omega (arith, Crossing-len c.args.builder.now c.loop-high.builder c.args.x.now.regs c.args.y.now.regs g.row.N c.loop-low.low c.loop-high.high c.loop-high.invariant (omega (arith, c.loop-high.auto.high))) in (
-      omega (arith, AllBelow-at (draft_len c.args.builder.now) c.args.x.now.regs c.loop-low.low c.requires.left (omega (arith, c.loop-low-test.true, c.count_law.ensures, c.count_law-2.ensures)), len, one.len),
-      omega (arith, AllBelow-at (draft_len c.args.builder.now) c.args.y.now.regs c.loop-high.high c.requires.right (omega (arith, c.loop-high-test.true, c.count_law.ensures, c.count_law-2.ensures)), len, one.len),
+      omega (arith, AllBelow-at (draft_len c.args.builder.now) c.args.x.now.regs c.loop-low.low c.requires.left (omega (arith, c.loop-low-test.true, c.law.ensures, c.law-2.ensures)), len, one.len),
+      omega (arith, AllBelow-at (draft_len c.args.builder.now) c.args.y.now.regs c.loop-high.high c.requires.right (omega (arith, c.loop-high-test.true, c.law.ensures, c.law-2.ensures)), len, one.len),
     )
 
 pub push-sum-requires-in-loop-high-clause-room : goal.push-sum-requires-in-loop-high-clause-room
@@ -113,8 +113,8 @@ push-other-requires-clause-fits g c =
     let two : HasPushed c.push-sum.new.self c.push-product.new.self = pushed-numbers c.push-sum.new.self c.push-product.new.self (instr.Mul (slice_index c.args.x.now.regs c.loop-low.low) (slice_index c.args.y.now.regs c.loop-high.high)) c.push-product.ensures.pushed in
     let three : HasPushed c.push-product.new.self c.push-sum-in-loop-high.new.self = pushed-numbers c.push-product.new.self c.push-sum-in-loop-high.new.self (instr.Add c.push-sum.result c.push-product.result) c.push-sum-in-loop-high.ensures.pushed in
     let len : draft_len c.args.builder.now ≤ draft_len c.loop-high.builder = omega (arith, Crossing-len c.args.builder.now c.loop-high.builder c.args.x.now.regs c.args.y.now.regs g.row.N c.loop-low.low c.loop-high.high c.loop-high.invariant (omega (arith, c.loop-high.auto.high))) in (
-      omega (arith, AllBelow-at (draft_len c.args.builder.now) c.args.x.now.regs c.loop-high.high c.requires.left (omega (arith, c.loop-high-test.true, c.count_law.ensures, c.count_law-2.ensures)), len, one.len, two.len, three.len),
-      omega (arith, AllBelow-at (draft_len c.args.builder.now) c.args.y.now.regs c.loop-low.low c.requires.right (omega (arith, c.loop-low-test.true, c.count_law.ensures, c.count_law-2.ensures)), len, one.len, two.len, three.len),
+      omega (arith, AllBelow-at (draft_len c.args.builder.now) c.args.x.now.regs c.loop-high.high c.requires.left (omega (arith, c.loop-high-test.true, c.law.ensures, c.law-2.ensures)), len, one.len, two.len, three.len),
+      omega (arith, AllBelow-at (draft_len c.args.builder.now) c.args.y.now.regs c.loop-low.low c.requires.right (omega (arith, c.loop-low-test.true, c.law.ensures, c.law-2.ensures)), len, one.len, two.len, three.len),
     )
 
 pub push-sum-requires-in-loop-high-2-clause-room : goal.push-sum-requires-in-loop-high-2-clause-room
@@ -152,7 +152,7 @@ loop-high-preserved g c =
       second_is = c.push-other.ensures.position;
       five_is = c.push-sum-in-loop-high-2.ensures.pushed;
     })
-    (omega (arith, c.loop-high.auto.high)) (omega (arith, c.loop-high-test.true)) c.count_law.ensures c.count_law-2.ensures
+    (omega (arith, c.loop-high.auto.high)) (omega (arith, c.loop-high-test.true)) c.law.ensures c.law-2.ensures
 
 pub loop-low-preserved : goal.loop-low-preserved
 loop-low-preserved g c =
@@ -178,14 +178,14 @@ push-sum-requires-in-loop-row-clause-few g c =
 pub push-sum-requires-in-loop-row-clause-fits : goal.push-sum-requires-in-loop-row-clause-fits
 push-sum-requires-in-loop-row-clause-fits g c =
     let len : draft_len c.args.builder.now ≤ draft_len c.loop-row.builder = omega (arith, Rowing-len c.args.builder.now c.loop-row.builder c.args.x.now.regs c.args.y.now.regs c.loop-row.regs g.row.N c.loop-row.row c.loop-row.invariant (omega (arith, c.loop-row-test.true))) in (
-      omega (arith, AllBelow-at (draft_len c.args.builder.now) c.args.x.now.regs c.loop-row.row c.requires.left (omega (arith, c.loop-row-test.true, c.count_law.ensures)), len),
-      omega (arith, AllBelow-at (draft_len c.args.builder.now) c.args.y.now.regs c.loop-row.row c.requires.right (omega (arith, c.loop-row-test.true, c.count_law-2.ensures)), len),
+      omega (arith, AllBelow-at (draft_len c.args.builder.now) c.args.x.now.regs c.loop-row.row c.requires.left (omega (arith, c.loop-row-test.true, c.law.ensures)), len),
+      omega (arith, AllBelow-at (draft_len c.args.builder.now) c.args.y.now.regs c.loop-row.row c.requires.right (omega (arith, c.loop-row-test.true, c.law-2.ensures)), len),
     )
 
 pub loop-column-init : goal.loop-column-init
 loop-column-init g c =
     Columning-start c.args.builder.now c.loop-row.builder c.push-sum-in-loop-row.new.self c.args.x.now.regs c.args.y.now.regs c.loop-row.regs g.row.N c.loop-row.row c.push-sum-in-loop-row.result
-    c.loop-row.invariant (omega (arith, c.loop-row-test.true)) c.count_law.ensures c.count_law-2.ensures c.push-sum-in-loop-row.ensures.pushed c.push-sum-in-loop-row.ensures.position
+    c.loop-row.invariant (omega (arith, c.loop-row-test.true)) c.law.ensures c.law-2.ensures c.push-sum-in-loop-row.ensures.pushed c.push-sum-in-loop-row.ensures.position
 
 pub cell_position-requires-clause-most : goal.cell_position-requires-clause-most
 cell_position-requires-clause-most g c =
@@ -219,7 +219,7 @@ pub push-sum-requires-then-column-row-clause-fits : goal.push-sum-requires-then-
 push-sum-requires-then-column-row-clause-fits g c =
     let base : draft_len c.reserve.new.self ≡ draft_len c.args.builder.now = ap draft_len c.in_ok-reserve.ensures.same in
     let len : draft_len c.loop-column.builder ≡ _ = Columning-len c.args.builder.now c.loop-column.builder c.args.x.now.regs c.args.y.now.regs g.row.N c.loop-row.row c.loop-column.column c.loop-column.sum c.loop-column.invariant (omega (arith, c.loop-row-test.true)) in (
-      omega (arith, sum-at c.args.builder.now c.args.x.now.regs c.args.y.now.regs g.row.N c.loop-row.row c.loop-column.column c.count_law.ensures c.count_law-2.ensures, c.loop-column.invariant.last, len),
+      omega (arith, sum-at c.args.builder.now c.args.x.now.regs c.args.y.now.regs g.row.N c.loop-row.row c.loop-column.column c.law.ensures c.law-2.ensures, c.loop-column.invariant.last, len),
       omega (
         arith,
         c.cell_position.ensures,
@@ -240,8 +240,8 @@ loop-column-preserved g c =
           (subst (λ (s : ℕ). Columning c.args.builder.now w.push-sum-then-column-row.new.self c.args.x.now.regs c.args.y.now.regs g.row.N c.loop-row.row (c.loop-column.column + 1) s) (sym w.sum-is)
           (Columning-more c.args.builder.now c.loop-column.builder w.push-sum-then-column-row.new.self c.args.x.now.regs c.args.y.now.regs g.row.N c.loop-row.row c.loop-column.column c.loop-column.sum
           w.cell_position.result w.push-sum-then-column-row.result c.loop-column.invariant (omega (arith, c.loop-row-test.true)) (omega (arith, c.loop-column-test.true)) other
-          c.count_law.ensures c.count_law-2.ensures
-          (cell-at c.args.builder.now c.args.x.now.regs c.args.y.now.regs g.row.N c.loop-row.row c.loop-column.column w.cell_position.result c.count_law.ensures c.count_law-2.ensures other
+          c.law.ensures c.law-2.ensures
+          (cell-at c.args.builder.now c.args.x.now.regs c.args.y.now.regs g.row.N c.loop-row.row c.loop-column.column w.cell_position.result c.law.ensures c.law-2.ensures other
           (omega (arith, w.cell_position.ensures, base, c.len-first.ensures)))
           w.push-sum-then-column-row.ensures.pushed w.push-sum-then-column-row.ensures.position))
       | else-column-row w ↦
@@ -261,7 +261,7 @@ returns-clause-emitted g c =
     Rowing-all c.args.builder.now c.loop-row.builder c.args.x.now.regs c.args.y.now.regs c.loop-row.regs g.row.N c.loop-row.row c.loop-row.invariant (omega (arith, c.loop-row.auto.row-end, c.loop-row-test.false))
 
 pub returns-clause-value : goal.returns-clause-value
-returns-clause-value g c = product-gives _ _ g.row.N _ c.args.x.now.regs c.args.y.now.regs c.count_law.ensures c.count_law-2.ensures c.requires.left c.requires.right
+returns-clause-value g c = product-gives _ _ g.row.N _ c.args.x.now.regs c.args.y.now.regs c.law.ensures c.law-2.ensures c.requires.left c.requires.right
 
 pub returns-clause-strong : goal.returns-clause-strong
 returns-clause-strong g c = λ maps. product-strong _ maps g.row.N

@@ -22,7 +22,7 @@ overflow_mul-pairs_before g c = omega (arith, c.pairs_before.ensures, length-ref
 pub loop-i-init : goal.loop-i-init
 loop-i-init g c =
     Refreshing-start c.args.builder.now c.reserve.new.self c.args.x.now.regs g.row.N c.in_ok-reserve.ensures.same
-    (omega (arith, c.in_ok-reserve.ensures.ok, c.pairs_before.ensures)) c.count_law.ensures
+    (omega (arith, c.in_ok-reserve.ensures.ok, c.pairs_before.ensures)) c.law.ensures
 
 pub loop-j-init : goal.loop-j-init
 loop-j-init g c = Refreshing-first c.args.builder.now c.loop-i.builder c.args.x.now.regs c.loop-i.regs g.row.N c.loop-i.i c.loop-i.invariant
@@ -56,7 +56,7 @@ push-requires-clause-few g c =
 pub push-requires-clause-fits : goal.push-requires-clause-fits
 push-requires-clause-fits g c =
     let positions : AreBefore c.loop-j.builder c.loop-j.regs c.loop-i.i c.loop-j.j =
-    Refreshing-before c.args.builder.now c.loop-j.builder c.args.x.now.regs c.loop-j.regs g.row.N c.loop-i.i c.loop-j.j c.loop-j.invariant (omega (arith, c.loop-j.auto.j)) (omega (arith, c.loop-j-test.true)) c.count_law.ensures c.requires.shared in
+    Refreshing-before c.args.builder.now c.loop-j.builder c.args.x.now.regs c.loop-j.regs g.row.N c.loop-i.i c.loop-j.j c.loop-j.invariant (omega (arith, c.loop-j.auto.j)) (omega (arith, c.loop-j-test.true)) c.law.ensures c.requires.shared in
     let one : HasPushed c.loop-j.builder c.push-random.new.self = pushed-numbers c.loop-j.builder c.push-random.new.self instr.Rnd c.push-random.ensures.pushed in
     (omega (arith, positions.first, one.len), omega (arith, c.push-random.ensures.position, one.len))
 
@@ -81,7 +81,7 @@ push-requires-in-loop-j-clause-few g c =
 pub push-requires-in-loop-j-clause-fits : goal.push-requires-in-loop-j-clause-fits
 push-requires-in-loop-j-clause-fits g c =
     let positions : AreBefore c.loop-j.builder c.loop-j.regs c.loop-i.i c.loop-j.j =
-    Refreshing-before c.args.builder.now c.loop-j.builder c.args.x.now.regs c.loop-j.regs g.row.N c.loop-i.i c.loop-j.j c.loop-j.invariant (omega (arith, c.loop-j.auto.j)) (omega (arith, c.loop-j-test.true)) c.count_law.ensures c.requires.shared in
+    Refreshing-before c.args.builder.now c.loop-j.builder c.args.x.now.regs c.loop-j.regs g.row.N c.loop-i.i c.loop-j.j c.loop-j.invariant (omega (arith, c.loop-j.auto.j)) (omega (arith, c.loop-j-test.true)) c.law.ensures c.requires.shared in
     let one : HasPushed c.loop-j.builder c.push-random.new.self = pushed-numbers c.loop-j.builder c.push-random.new.self instr.Rnd c.push-random.ensures.pushed in
     let two : HasPushed c.push-random.new.self c.push.new.self =
     pushed-numbers c.push-random.new.self c.push.new.self (instr.Add (slice_index c.loop-j.regs c.loop-i.i) c.push-random.result) c.push.ensures.pushed in
@@ -101,7 +101,7 @@ loop-j-preserved g c =
       three_is = c.push-in-loop-j.ensures.pushed;
       second_is = c.push-in-loop-j.ensures.position;
     })
-    (omega (arith, c.loop-j.auto.j)) (omega (arith, c.loop-j-test.true)) c.count_law.ensures
+    (omega (arith, c.loop-j.auto.j)) (omega (arith, c.loop-j-test.true)) c.law.ensures
 
 pub loop-i-preserved : goal.loop-i-preserved
 loop-i-preserved g c =
@@ -115,7 +115,7 @@ returns-clause-emitted g c =
     (omega (arith, c.loop-i.auto.i-end, c.loop-i-test.false))
 
 pub returns-clause-value : goal.returns-clause-value
-returns-clause-value g c = refresh-gives _ _ g.row.N _ c.args.x.now.regs c.count_law.ensures c.requires.shared
+returns-clause-value g c = refresh-gives _ _ g.row.N _ c.args.x.now.regs c.law.ensures c.requires.shared
 
 pub returns-clause-strong : goal.returns-clause-strong
 returns-clause-strong g c = λ maps. refresh-strong _ maps g.row.N

@@ -2,8 +2,8 @@
 use Rattle.mk_bundle.specs.Reads.{IsGoing, to_come}
 use Rattle.mk_layer_rows.proofs.bundles.events.Given as goal
 
-abbrev pub invariant-loop-reader : goal.invariant-loop-reader
-invariant-loop-reader l = IsGoing l.reader
+abbrev pub invariant-loop-events : goal.invariant-loop-events
+invariant-loop-events l = IsGoing l.reader
 
-abbrev pub decreases-loop-reader : goal.decreases-loop-reader
-decreases-loop-reader l = to_come l.reader
+abbrev pub decreases-loop-events : goal.decreases-loop-events
+decreases-loop-events l = to_come l.reader

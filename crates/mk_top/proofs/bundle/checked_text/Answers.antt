@@ -1,20 +1,9 @@
--- The bundle that was read is the one that was given.
-use Rattle.std.proofs.Common.{ℕ, List, Some, IfOk, IfErr, subst}
-use Rattle.mk_words.specs.Words.{Check}
-use Rattle.mk_top.specs.Headline.{Makes}
+-- The line is that of a bundle that was checked.
 use Rattle.mk_top.specs.Seen.{seen}
-use Rattle.mk_top.specs.Running.{NotMade}
-use Rattle.mk_top.proofs.Given.{made-given, no_text-given}
+use Rattle.mk_top.proofs.Progress.{checked-made}
 use Rattle.mk_top.proofs.bundle.checked_text.Goals as goal
 
 pub returns-clause-made : goal.returns-clause-made
 returns-clause-made g c =
-    let command = Check in
-    made-given command (seen g.S.Source.left g.S.Source.faults c.args.src.now c.whole_text.new.src) c.in_ok-text.text c.line_of_verdict.result c.in_ok-text.ensures.within c.in_ok-text.ensures.read
-    (subst (λ (bytes : List ℕ). IfOk c.line_of_verdict.result (Makes command (Some bytes))) c.as_slice.ensures.items c.line_of_verdict.ensures.checked)
-
-pub returns-clause-unmade : goal.returns-clause-unmade
-returns-clause-unmade g c =
-    let command = Check in
-    no_text-given command (seen g.S.Source.left g.S.Source.faults c.args.src.now c.whole_text.new.src) c.in_ok-text.text c.line_of_verdict.result c.in_ok-text.ensures.within c.in_ok-text.ensures.read
-    (subst (λ (bytes : List ℕ). IfErr c.line_of_verdict.result (NotMade command bytes)) c.as_slice.ensures.items c.line_of_verdict.ensures.fault)
+    checked-made (seen g.S.Source.left g.S.Source.faults c.args.src.now c.verdict.new.src) c.in_ok-accepted_line.field-0 c.in_ok-verdict.ensures.checked
+    c.in_ok-accepted_line.ensures

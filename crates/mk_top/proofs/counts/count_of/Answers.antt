@@ -8,10 +8,10 @@ use Rattle.mk_top.proofs.Counted.{count_not_made}
 use Rattle.mk_top.proofs.counts.count_of.Goals as goal
 
 pub returns-in_err-table-clause-fault : goal.returns-in_err-table-clause-fault
-returns-in_err-table-clause-fault c =
-    let p = err_from_is_err_and c.from_residual-in_err-table.result c.from_residual-in_err-table.ensures.1 in
+returns-in_err-table-clause-fault c text is =
+    let p = err_from_is_err_and c.from_residual.result c.from_residual.ensures.1 in
     let counts = Count c.args.publics.now c.args.first.now c.args.second.now c.args.probes.now in
-    subst (λ (r : Result (List ℕ) Fault). IfErr r (NotMade counts c.args.text.now)) (sym p.1)
-    (subst (NotMade counts c.args.text.now) (sym p.2)
-    (count_not_made c.args.publics.now c.args.first.now c.args.second.now c.args.probes.now c.args.text.now c.in_ok-bundle.bundle.code c.in_ok-bundle.bundle.cert
-    c.in_err-table.field-0.0 (c.in_ok-bundle.ensures).ok (c.in_err-table.ensures).refused))
+    subst (λ (r : Result (List ℕ) Fault). IfErr r (NotMade counts text)) (sym p.1)
+    (subst (NotMade counts text) (sym p.2)
+    (count_not_made c.args.publics.now c.args.first.now c.args.second.now c.args.probes.now text c.args.bundle.now.code c.args.bundle.now.cert
+    c.in_err-table.field-0.0 is (c.in_err-table.ensures).refused))

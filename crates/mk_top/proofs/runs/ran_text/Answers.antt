@@ -1,21 +1,28 @@
 -- The bundle that was read is the one that was given.
-use Rattle.std.proofs.Common.{ℕ, List, Some, IfOk, IfErr, subst}
+use Rattle.std.proofs.Common.{ℕ, List, Result, IfErr, sym, subst}
+use Rattle.std.proofs.lemmas.Result.{err_from_is_err_and}
 use Rattle.mk_words.specs.Words.{Run}
 use Rattle.mk_top.specs.Forms.{given_of}
-use Rattle.mk_top.specs.Headline.{Makes}
+use Rattle.mk_top.specs.declared.fault.Fault.{Fault}
+use Rattle.mk_top.specs.Running.{NoText}
 use Rattle.mk_top.specs.Seen.{seen}
-use Rattle.mk_top.specs.Running.{NotMade}
-use Rattle.mk_top.proofs.Given.{made-given, no_text-given}
+use Rattle.mk_top.proofs.Given.{made-collected, no_text-collected}
 use Rattle.mk_top.proofs.runs.ran_text.Goals as goal
 
 pub returns-clause-made : goal.returns-clause-made
 returns-clause-made g c =
-    let command = Run c.args.publics.now c.args.secrets.now (given_of c.args.tape) in
-    made-given command (seen g.S.Source.left g.S.Source.faults c.args.src.now c.whole_text.new.src) c.in_ok-text.text c.run_of.result c.in_ok-text.ensures.within c.in_ok-text.ensures.read
-    (subst (λ (bytes : List ℕ). IfOk c.run_of.result (Makes command (Some bytes))) c.as_slice.ensures.items c.run_of.ensures.runs)
+    made-collected (Run c.args.publics.now c.args.secrets.now (given_of c.args.tape)) (seen g.S.Source.left g.S.Source.faults c.args.src.now c.whole_bundle.new.src) c.in_ok-bundle.bundle c.run_of.result tt
+    c.in_ok-bundle.ensures.read c.run_of.ensures.runs
 
 pub returns-clause-unmade : goal.returns-clause-unmade
 returns-clause-unmade g c =
+    no_text-collected (Run c.args.publics.now c.args.secrets.now (given_of c.args.tape)) (seen g.S.Source.left g.S.Source.faults c.args.src.now c.whole_bundle.new.src) c.in_ok-bundle.bundle c.run_of.result tt
+    c.in_ok-bundle.ensures.read c.run_of.ensures.fault
+
+pub returns-in_err-bundle-clause-unmade : goal.returns-in_err-bundle-clause-unmade
+returns-in_err-bundle-clause-unmade g c =
+    let p = err_from_is_err_and c.from_residual.result c.from_residual.ensures.1 in
+    let input = seen g.S.Source.left g.S.Source.faults c.args.src.now c.whole_bundle.new.src in
     let command = Run c.args.publics.now c.args.secrets.now (given_of c.args.tape) in
-    no_text-given command (seen g.S.Source.left g.S.Source.faults c.args.src.now c.whole_text.new.src) c.in_ok-text.text c.run_of.result c.in_ok-text.ensures.within c.in_ok-text.ensures.read
-    (subst (λ (bytes : List ℕ). IfErr c.run_of.result (NotMade command bytes)) c.as_slice.ensures.items c.run_of.ensures.fault)
+    subst (λ (r : Result (List ℕ) Fault). IfErr r (NoText command input)) (sym p.1)
+    (subst (NoText command input) (sym p.2) ((c.in_err-bundle.ensures).fault command tt))

@@ -9,15 +9,15 @@ use Rattle.mk_top.proofs.Given.{run_not_made, runs-made}
 use Rattle.mk_top.proofs.runs.run_of.Goals as goal
 
 pub returns-in_err-text_of_run-clause-fault : goal.returns-in_err-text_of_run-clause-fault
-returns-in_err-text_of_run-clause-fault c =
-    let p = err_from_is_err_and c.from_residual-in_err-text_of_run.result c.from_residual-in_err-text_of_run.ensures.1 in
+returns-in_err-text_of_run-clause-fault c text is =
+    let p = err_from_is_err_and c.from_residual.result c.from_residual.ensures.1 in
     let run = Run c.args.publics.now c.args.secrets.now (given_of c.args.tape) in
-    subst (λ (r : Result (List ℕ) Fault). IfErr r (NotMade run c.args.text.now)) (sym p.1)
-    (subst (NotMade run c.args.text.now) (sym p.2)
-    (run_not_made c.args.publics.now c.args.secrets.now (given_of c.args.tape) c.args.text.now c.in_ok-bundle.bundle.code c.in_ok-bundle.bundle.cert c.in_err-text_of_run.field-0.0
-    (c.in_ok-bundle.ensures).ok (c.in_err-text_of_run.ensures).refused))
+    subst (λ (r : Result (List ℕ) Fault). IfErr r (NotMade run text)) (sym p.1)
+    (subst (NotMade run text) (sym p.2)
+    (run_not_made c.args.publics.now c.args.secrets.now (given_of c.args.tape) text c.args.bundle.now.code c.args.bundle.now.cert c.in_err-text_of_run.field-0.0
+    is (c.in_err-text_of_run.ensures).refused))
 
 pub returns-clause-runs : goal.returns-clause-runs
-returns-clause-runs c =
-    runs-made c.args.publics.now c.args.secrets.now (given_of c.args.tape) c.args.text.now c.in_ok-text_of_run.field-0 c.in_ok-bundle.bundle.code c.in_ok-bundle.bundle.cert
-    (c.in_ok-bundle.ensures).ok (c.in_ok-text_of_run.ensures).taken (c.in_ok-text_of_run.ensures).text
+returns-clause-runs c text is =
+    runs-made c.args.publics.now c.args.secrets.now (given_of c.args.tape) text c.in_ok-text_of_run.field-0 c.args.bundle.now.code c.args.bundle.now.cert
+    is (c.in_ok-text_of_run.ensures).taken (c.in_ok-text_of_run.ensures).text

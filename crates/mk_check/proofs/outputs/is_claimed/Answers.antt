@@ -1,1 +1,0 @@
--- The claim is there, and its bank is the output or isn't.

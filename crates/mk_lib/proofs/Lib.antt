@@ -1,0 +1,5 @@
+pub mod ByLines
+pub mod Form
+pub mod Sound
+pub mod Complete
+pub mod Naming

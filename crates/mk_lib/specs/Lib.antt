@@ -1,0 +1,4 @@
+pub mod Text
+pub mod Texts
+pub mod Sample
+pub mod Reading

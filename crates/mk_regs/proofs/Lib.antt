@@ -1,0 +1,15 @@
+pub mod Parts
+pub mod Held
+pub mod Running
+pub mod Traces
+pub mod Privacy
+pub mod Writes
+pub mod Counts
+pub mod Widths
+pub mod Unique
+pub mod Renames
+pub mod LastReads
+pub mod Heaps
+pub mod Placing
+pub mod Allocating
+pub mod Examples

@@ -1,0 +1,10 @@
+pub mod Form
+pub mod Renaming
+pub mod Renamer
+pub mod Trace
+pub mod Width
+pub mod Allocation
+pub mod Tables
+pub mod Transitions
+pub mod Laws
+pub mod Examples

@@ -1,0 +1,15 @@
+pub mod Lists
+pub mod Sums
+pub mod Raised
+pub mod Steps
+pub mod Interpolation
+pub mod Taken
+pub mod Additive
+pub mod Whole
+pub mod Regular
+pub mod Made
+pub mod Typing
+pub mod Unrolling
+pub mod Values
+pub mod Computed
+pub mod Products

@@ -1,0 +1,5 @@
+pub mod Coefficients
+pub mod Classes
+pub mod ClassImages
+pub mod Source
+pub mod Table
