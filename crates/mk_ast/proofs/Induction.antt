@@ -37,6 +37,7 @@ module _ (P : Index → Type 0) (Q : Link → Type 0)
     (sum : (parts : List Index) → AllByRecursion P parts → P (index.Sum parts))
     (chain : (first : Index) (links : List Link) → P first → AllByRecursion Q links → P (index.Chain first links))
     (times : (by : Index) → P by → Q (link.Times by)) (rest : (n : ℕ) → Q (link.Mod n)) where
+  -- an index is rolled up of parts of which the claims hold, and so holds its own
   index_case : (y : Index-F ((x : Index) × P x) ((l : Link) × Q l)) →
       P (index_views.roll-Index (map-Index ((x : Index) × P x) ((l : Link) × Q l) Index Link (λ e. e.0) (λ e. e.0) y))
   index_case (Index-F.Num n) = subst P (sym (index_views.rolls-Num n)) (num n)
@@ -44,6 +45,7 @@ module _ (P : Index → Type 0) (Q : Link → Type 0)
   index_case (Index-F.Sum ys) = subst P (sym (index_views.rolls-Sum _)) (sum (map (λ y. y.0) ys) (beside P ys))
   index_case (Index-F.Chain y ls) = subst P (sym (index_views.rolls-Chain _ _)) (chain y.0 (map (λ l. l.0) ls) y.1 (beside Q ls))
 
+  -- and a link of an index
   link_case : (y : Link-F ((x : Index) × P x) ((l : Link) × Q l)) →
       Q (index_views.roll-Link (map-Link ((x : Index) × P x) ((l : Link) × Q l) Index Link (λ e. e.0) (λ e. e.0) y))
   link_case (Link-F.Times y) = subst Q (sym (index_views.rolls-Times _)) (times y.0 y.1)
@@ -60,6 +62,7 @@ module _ (P : Expr → Type 0)
     (sq : (arg : Expr) → P arg → P (expr.Sq arg)) (apply : (name : List ℕ) (at : Place) (arg : Expr) → P arg → P (expr.Apply name at arg))
     (sum : (parts : List Expr) → AllByRecursion P parts → P (expr.Sum parts))
     (product : (parts : List Expr) → AllByRecursion P parts → P (expr.Product parts)) where
+  -- an expression that is rolled up of parts of which the claim holds
   expr_case : (y : Expr-F ((x : Expr) × P x)) → P (expr_views.roll-Expr (map-Expr ((x : Expr) × P x) Expr (λ e. e.0) y))
   expr_case (Expr-F.Lit value at) = subst P (sym (expr_views.rolls-Lit value at)) (lit value at)
   expr_case (Expr-F.Read from) = subst P (sym (expr_views.rolls-Read from)) (read from)
@@ -76,6 +79,7 @@ module _ (P : Expr → Type 0)
 module _ (P : Stmt → Type 0)
     (set : (target : Ref) (value : Expr) → P (stmt.Set target value))
     (repeated : (name : List ℕ) (at : Place) (from to : ℕ) (body : List Stmt) → AllByRecursion P body → P (stmt.Loop name at from to body)) where
+  -- a statement that is rolled up of a body of which the claim holds
   stmt_case : (y : Stmt-F ((x : Stmt) × P x)) → P (stmt_views.roll-Stmt (map-Stmt ((x : Stmt) × P x) Stmt (λ e. e.0) y))
   stmt_case (Stmt-F.Set target value) = subst P (sym (stmt_views.rolls-Set target value)) (set target value)
   stmt_case (Stmt-F.Loop name at from to ys) =

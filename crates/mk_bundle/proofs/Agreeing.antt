@@ -13,7 +13,7 @@ use Rattle.mk_ssa.specs.declared.Op.{Op}
 use Rattle.mk_code.specs.declared.instr.Instr.{Instr}
 use Rattle.mk_code.specs.Listing.{Listing, trace_len}
 use Rattle.mk_rules.specs.Claimed.{Claimed}
-use Rattle.mk_lines.specs.Parsing.{◌>>=◌, after, map_of, operand_of, op_of, instr_of, positions_of, behind}
+use Rattle.mk_lines.specs.Parsing.{field_of, ◌>>=◌, after, map_of, operand_of, op_of, instr_of, positions_of, behind}
 use Rattle.mk_lines.proofs.Spelled.{positions_found}
 use Rattle.mk_bundle.specs.declared.draft.Stage.{Stage}
 use Rattle.mk_bundle.specs.declared.draft.Stage.TheVariants.{Version, Field, Order, Secrets, Publics, Upper, Lower, Ended}
@@ -21,7 +21,7 @@ use Rattle.mk_bundle.specs.declared.event.Head.{Head}
 use Rattle.mk_bundle.specs.declared.event.Event.{Event}
 use Rattle.mk_bundle.specs.declared.event.Event.TheVariants as event
 use Rattle.mk_bundle.specs.Events.{head_of, outs_of, outputs_of, upper_events, lower_events, has_begun, events_at}
-use Rattle.mk_bundle.specs.Reading.{State, version_line, field_line_of, field_read, headed, order_read, secrets_read, publics_read, may_map, map_read, may_block, block_read, claim_read, code_read, upper_read, fits_at, may_instr, instr_read, out_read, lower_read, read_at}
+use Rattle.mk_bundle.specs.Reading.{State, version_line, field_read, headed, order_read, secrets_read, publics_read, may_map, map_read, may_block, block_read, claim_read, code_read, upper_read, fits_at, may_instr, instr_read, out_read, lower_read, read_at}
 use Rattle.mk_bundle.specs.Counting.{Seen, summary, Counted, version_counted, field_counted, order_counted, secrets_counted, publics_counted, map_counts, map_counted, block_counts, block_counted, claim_counted, code_counted, upper_counted, instr_counts, instr_counted, out_counted, lower_counted, counted_at}
 use Rattle.mk_bundle.proofs.Sound.{at, Good, IsFresh, HasNoCode}
 
@@ -104,7 +104,7 @@ version_agrees code cert l = which (bytes_eq l (codes "mask 1"))
 -- the line of the field
 field_agrees : (code : Listing) (cert : Claimed) (l : List ℕ) → Agrees (at Field code cert) (field_counted (summary (at Field code cert) code.maps) l) (field_read (at Field code cert) l)
 unfolding field_counted field_read
-field_agrees code cert l = by (field_line_of l)
+field_agrees code cert l = by (field_of l)
   where
     by : (o : Option FieldId)
         → Agrees (at Field code cert) (o >>= λ f. Some (record (summary (at Field code cert) code.maps) { stage = Order; field = f }, None)) (o >>= λ f. Some (at Order (record code { field = f }) cert))

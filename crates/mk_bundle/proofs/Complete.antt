@@ -19,16 +19,17 @@ use Rattle.mk_rules.specs.Claimed.{Claimed}
 use Rattle.mk_lines.specs.Words.{line, operand_word, is_line}
 use Rattle.mk_field.specs.Digits.{hex_byte}
 use Rattle.mk_lines.specs.CertLines.{op_line, claim_line}
-use Rattle.mk_lines.specs.CodeLines.{map_line, instr_line, position_word, out_line, out_lines}
+use Rattle.mk_lines.specs.CodeLines.{field_line, map_line, instr_line, position_word, out_line, out_lines}
 use Rattle.mk_ssa.specs.Widths.{OperandFits, OpFits}
 use Rattle.mk_field.specs.Maps.{MapFits}
 use Rattle.mk_field.proofs.Raised.{element-byte}
-use Rattle.mk_bundle.specs.Text.{field_line, number_line, head_lines, text}
+use Rattle.mk_bundle.specs.Text.{number_line, head_lines, text}
 use Rattle.mk_lines.specs.Lines.{AreLines}
 use Rattle.mk_rules.specs.Pairs.{IsPair}
 use Rattle.mk_bundle.specs.declared.draft.Stage.TheVariants.{Field, Order, Secrets, Publics, Upper, Lower, Ended}
-use Rattle.mk_lines.specs.Parsing.{◌>>=◌, after, positions_of}
-use Rattle.mk_bundle.specs.Reading.{State, start, version_line, field_line_of, field_read, headed, order_read, secrets_read, publics_read, may_map, map_read, may_block, block_read, claim_read, code_read, upper_read, fits_at, may_instr, instr_read, out_read, lower_read, read_at, line_read, lines_read}
+use Rattle.mk_lines.specs.Parsing.{field_of, ◌>>=◌, after, positions_of}
+use Rattle.mk_bundle.specs.Reading.{State, start, version_line, field_read, headed, order_read, secrets_read, publics_read, may_map, map_read, may_block, block_read, claim_read, code_read, upper_read, fits_at, may_instr, instr_read, out_read, lower_read, read_at, line_read, lines_read}
+use Rattle.mk_lines.proofs.ByLines.{All-append, All-front, All-back}
 use Rattle.mk_lines.proofs.Steps.{after_again}
 use Rattle.mk_lines.proofs.Numbers.{number_of_again}
 use Rattle.mk_lines.proofs.Spelled.{map_again, operand_of_again, positions_again}
@@ -55,21 +56,6 @@ lines_read-append st [] ys = refl
 lines_read-append st (x ∷ xs) ys =
     bind_same (line_read st x) (λ (next : State). lines_read next (xs ++ ys)) (λ (next : State). lines_read next xs >>= λ last. lines_read last ys) (λ next. lines_read-append next xs ys)
     ∙ sym (bind_assoc (line_read st x) (λ (next : State). lines_read next xs) (λ (last : State). lines_read last ys))
-
--- what holds of all of two lists holds of all of them together
-pub All-append : {A : Type 0} (P : A → Type 0) (xs ys : List A) → AllByRecursion P xs → AllByRecursion P ys → AllByRecursion P (xs ++ ys)
-All-append P [] ys all more = more
-All-append P (x ∷ xs) ys all more = (all.0, All-append P xs ys all.1 more)
-
--- what holds of all of two lists together holds of all of the first
-pub All-front : {A : Type 0} (P : A → Type 0) (xs ys : List A) → AllByRecursion P (xs ++ ys) → AllByRecursion P xs
-All-front P [] ys all = tt
-All-front P (x ∷ xs) ys all = (all.0, All-front P xs ys all.1)
-
--- what holds of all of two lists together holds of all of the second
-pub All-back : {A : Type 0} (P : A → Type 0) (xs ys : List A) → AllByRecursion P (xs ++ ys) → AllByRecursion P ys
-All-back P [] ys all = all
-All-back P (x ∷ xs) ys all = All-back P xs ys all.1
 
 -- the bytes are lines that lead from one state to the other
 pub record Runs (from : State) (bytes : List ℕ) (to : State) : Type 0 where
@@ -129,7 +115,7 @@ version_runs = one_runs start (at Field (head_only Gf2 1 0 0) no_cert) (codes "m
 
 -- the field's line leads on to that of the order
 field_runs : (field : FieldId) → Runs (at Field (head_only Gf2 1 0 0) no_cert) (field_line field) (at Order (head_only field 1 0 0) no_cert)
-unfolding field_read field_line_of read_at
+unfolding field_read field_of read_at
 field_runs Gf2 = one_runs (at Field (head_only Gf2 1 0 0) no_cert) (at Order (head_only Gf2 1 0 0) no_cert) (codes "field gf2") refl refl
 field_runs Gf256 = one_runs (at Field (head_only Gf2 1 0 0) no_cert) (at Order (head_only Gf256 1 0 0) no_cert) (codes "field gf256") refl refl
 

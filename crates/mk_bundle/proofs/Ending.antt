@@ -2,6 +2,7 @@
 use Rattle.std.proofs.Common.{◌≡◌, ℕ, ◌+◌, ◌≤◌, true, List, [], ◌∷◌, ◌++◌, length, Option, Some, None, IfSome, Result, Ok, Err, refl, sym, ap, subst, ◌∙◌, arith, append_assoc, length-append}
 use Rattle.std.specs.Prelude.{flat_map}
 use Rattle.std.proofs.lemmas.List.{append-nil, nil_from_length}
+use Rattle.mk_bundle.specs.declared.TheConstants.{MOST_HELD}
 use Rattle.mk_lines.specs.Words.{line, is_line}
 use Rattle.mk_lines.specs.Lines.{NamesFirst}
 use Rattle.mk_lines.proofs.Steps.{same_some}
@@ -38,7 +39,7 @@ reads_more old new n before after taken events free g r = subst (λ (x : Reader)
   told = r.told;
   count = omega (arith, r.count, g.number, length-append taken g.came);
   within = g.within;
-  short = subst (λ (w : Option Event). length (flat_map event_text (listed w) ++ (old.pending ++ g.came)) ≤ 4096) (sym free) (omega (arith, g.short, ap (λ (x : Reader). length x.pending) g.held));
+  short = subst (λ (w : Option Event). length (flat_map event_text (listed w) ++ (old.pending ++ g.came)) ≤ MOST_HELD) (sym free) (omega (arith, g.short, ap (λ (x : Reader). length x.pending) g.held));
   other = r.other;
 })
 

@@ -6,8 +6,8 @@ use Rattle.mk_field.specs.declared.map.AddMap.{AddMap}
 use Rattle.mk_ssa.specs.declared.Operand.{Operand}
 use Rattle.mk_ssa.specs.declared.Op.{Op}
 use Rattle.mk_code.specs.declared.instr.Instr.{Instr}
-use Rattle.mk_lines.specs.Parsing.{◌>>=◌, after, map_of, operand_of, op_of, instr_of, positions_of, behind}
-use Rattle.mk_bundle.specs.Reading.{field_line_of, headed}
+use Rattle.mk_lines.specs.Parsing.{field_of, ◌>>=◌, after, map_of, operand_of, op_of, instr_of, positions_of, behind}
+use Rattle.mk_bundle.specs.Reading.{headed}
 use Rattle.mk_bundle.specs.declared.draft.Stage.{Stage}
 use Rattle.mk_bundle.specs.declared.draft.Stage.TheVariants.{Version, Field, Order, Secrets, Publics, Upper, Lower, Ended}
 use Rattle.mk_bundle.specs.declared.event.Event.{Event}
@@ -118,7 +118,7 @@ lower_marks seen l other =
 all_marks : (stage : Stage) (seen : Seen) (l : List ℕ) → (seen.stage ≡ Ended → ⊥) → Marks (counted_at stage seen l)
 unfolding counted_at version_counted field_counted order_counted secrets_counted publics_counted
 all_marks Version seen l other = marks_if (bytes_eq l (codes "mask 1")) (Some (record seen { stage = Field }, None)) None (quiet (record seen { stage = Field }) (λ e. absurd cc)) tt
-all_marks Field seen l other = marks_bind (field_line_of l) (λ (f : FieldId). Some (record seen { stage = Order; field = f }, None)) (λ f. quiet (record seen { stage = Order; field = f }) (λ e. absurd cc))
+all_marks Field seen l other = marks_bind (field_of l) (λ (f : FieldId). Some (record seen { stage = Order; field = f }, None)) (λ f. quiet (record seen { stage = Order; field = f }) (λ e. absurd cc))
 all_marks Order seen l other =
     marks_bind (headed (codes "order ") 8 l) (λ (n : ℕ). if nat_lt n 1 then None else Some (record seen { stage = Secrets; order = n }, None))
     (λ n. marks_if (nat_lt n 1) None (Some (record seen { stage = Secrets; order = n }, None)) tt (quiet (record seen { stage = Secrets; order = n }) (λ e. absurd cc)))

@@ -7,8 +7,8 @@ use Rattle.mk_code.specs.Listing.{Listing}
 use Rattle.mk_rules.specs.Claimed.{Claimed}
 use Rattle.mk_lines.specs.Words.{line, is_line}
 use Rattle.mk_lines.specs.CertLines.{op_line, claim_line}
-use Rattle.mk_lines.specs.CodeLines.{map_line, instr_line, out_lines}
-use Rattle.mk_bundle.specs.Text.{field_line, number_line, head_lines, upper_text, lower_text, text}
+use Rattle.mk_lines.specs.CodeLines.{field_line, map_line, instr_line, out_lines}
+use Rattle.mk_bundle.specs.Text.{number_line, head_lines, upper_text, lower_text, text}
 use Rattle.mk_lines.specs.Lines.{AreLines, BeginsWith, GoesWellFor, NamesFirst}
 use Rattle.mk_rules.specs.Pairs.{IsPair}
 use Rattle.mk_bundle.specs.Pairs.{IsBundleText, TextsDiffer}
@@ -17,9 +17,10 @@ use Rattle.mk_bundle.specs.declared.draft.Stage.TheVariants.{Version, Field, Ord
 use Rattle.mk_lines.specs.Parsing.{◌>>=◌}
 use Rattle.mk_bundle.specs.Reading.{State, start, read_at, line_read, lines_read}
 use Rattle.mk_lines.proofs.Steps.{bind_some, same_some}
+use Rattle.mk_lines.proofs.ByLines.{All-append, All-back, joined, not_nil, prefix_lines, last_line, few_lines, goes_well-less, Front, front_more, front_same}
 use Rattle.mk_lines.proofs.Feeds.{first_line, has_feed}
 use Rattle.mk_bundle.proofs.Sound.{at, text_at, Good, IsFresh, fresh_pair, line_goes}
-use Rattle.mk_bundle.proofs.Complete.{text_runs, lines_read-append, All-append, All-front, All-back}
+use Rattle.mk_bundle.proofs.Complete.{text_runs, lines_read-append}
 
 -- what was read so far is good at its stage
 abbrev pub GoodAt : State → Type 0
@@ -52,18 +53,6 @@ pub reached : (lines : List (List ℕ)) (st : State) → lines_read start lines 
 reached lines st e = all_go lines start st start_good e
 
 -- ---- the text of the pair goes on with it
-
--- a list that begins with another
-abbrev Front : List ℕ → List ℕ → Type 0
-Front xs ys = (rest : List ℕ) × (ys ≡ xs ++ rest)
-
--- what a list begins with, it begins with too where more stands behind it
-front_more : (xs ys more : List ℕ) → Front xs ys → Front xs (ys ++ more)
-front_more xs ys more h = (h.0 ++ more, ap (λ (r : List ℕ). r ++ more) h.1 ∙ append_assoc xs h.0 more)
-
--- a list begins with itself
-front_same : (xs : List ℕ) → Front xs xs
-front_same xs = ([], sym (append-nil xs))
 
 -- from a front of the lines before the code on
 from_upper : (xs : List ℕ) (code : Listing) (cert : Claimed) → Front xs (upper_text code cert) → Front xs (text code cert)
@@ -103,46 +92,6 @@ completes Publics code cert = from_publics (text_at Publics code cert) code cert
 completes Upper code cert = from_upper (upper_text code cert) code cert (front_same (upper_text code cert))
 completes Lower code cert = front_more (lower_text code cert) (lower_text code cert) (line (codes "end")) (front_same (lower_text code cert))
 completes Ended code cert = front_same (text code cert)
-
--- ---- lines and their bytes
-
--- the bytes of lines begin with the first of them and its line feed
-joined : (l : List ℕ) (lines : List (List ℕ)) (rest : List ℕ) → flat_map line (l ∷ lines) ++ rest ≡ l ++ 10 ∷ (flat_map line lines ++ rest)
-joined l lines rest = append_assoc (line l) (flat_map line lines) rest ∙ append_assoc l (10 ∷ []) (flat_map line lines ++ rest)
-
--- bytes in which a line feed stands are some
-not_nil : (l rest : List ℕ) → [] ≡ l ++ 10 ∷ rest → ⊥
-not_nil [] rest e = absurd cc
-not_nil (b ∷ l) rest e = absurd cc
-
--- lines that begin with other lines
-prefix_lines : (lines whole : List (List ℕ)) (rest : List ℕ) → AreLines lines → AreLines whole → flat_map line whole ≡ flat_map line lines ++ rest → (more : List (List ℕ)) × (whole ≡ lines ++ more) × (rest ≡ flat_map line more)
-prefix_lines [] whole rest clean clean_whole e = (whole, refl, sym e)
-prefix_lines (l ∷ lines) [] rest clean clean_whole e = absurd (not_nil l (flat_map line lines ++ rest) (e ∙ joined l lines rest))
-prefix_lines (l ∷ lines) (w ∷ whole) rest clean clean_whole e =
-    let first = first_line w l (flat_map line whole) (flat_map line lines ++ rest) clean_whole.0 clean.0 (sym (append_assoc w (10 ∷ []) (flat_map line whole)) ∙ e ∙ joined l lines rest) in
-    let others = prefix_lines lines whole rest clean.1 clean_whole.1 first.1 in
-    (others.0, ap (λ (v : List ℕ). v ∷ whole) first.0 ∙ ap (λ (vs : List (List ℕ)). l ∷ vs) others.1, others.2)
-
--- one line more
-last_line : (lines longer : List (List ℕ)) (rest left : List ℕ) → AreLines lines → AreLines longer → length longer ≡ length lines + 1 → flat_map line lines ++ rest ≡ flat_map line longer ++ left
-    → (l : List ℕ) × (longer ≡ lines ++ l ∷ []) × (rest ≡ l ++ 10 ∷ left) × (is_line l ≡ true)
-last_line [] [] rest left clean clean_longer one e = absurd (omega (arith, one))
-last_line [] (l ∷ []) rest left clean clean_longer one e = (l, refl, e ∙ joined l [] left, clean_longer.0)
-last_line [] (l ∷ m ∷ longer) rest left clean clean_longer one e = absurd (omega (arith, one))
-last_line (k ∷ lines) [] rest left clean clean_longer one e = absurd (omega (arith, one))
-last_line (k ∷ lines) (l ∷ longer) rest left clean clean_longer one e =
-    let first = first_line k l (flat_map line lines ++ rest) (flat_map line longer ++ left) clean.0 clean_longer.0 (sym (joined k lines rest) ∙ e ∙ joined l longer left) in
-    let others = last_line lines longer rest left clean.1 clean_longer.1 (omega (arith, one)) first.1 in
-    (others.0, ap (λ (v : List ℕ). v ∷ longer) (sym first.0) ∙ ap (λ (vs : List (List ℕ)). k ∷ vs) others.1, others.2, others.3)
-
--- there are at most as many lines as bytes in them
-pub few_lines : (lines : List (List ℕ)) → length lines ≤ length (flat_map line lines)
-few_lines [] = omega arith
-few_lines (l ∷ lines) =
-    let a : length (line l ++ flat_map line lines) ≡ length (line l) + length (flat_map line lines) = length-append (line l) (flat_map line lines) in
-    let b : length (line l) ≡ length l + 1 = length-append l (10 ∷ []) in
-    omega (arith, a, b, few_lines lines)
 
 -- ---- how far reading came
 
@@ -186,17 +135,6 @@ goes_well lines bytes rest st clean parts e =
     let all = completes st.stage st.code st.cert in
     (lines, clean, refl, (rest, parts), (text st.code st.cert, (st.code, st.cert, (h.0.pair, refl)), (all.0, all.1 ∙ ap (λ (r : List ℕ). r ++ all.0) h.1)))
 
--- as far as was read the text goes well for any smaller number of lines too
-goes_well_before : (lines : List (List ℕ)) (bytes rest : List ℕ) (st : State) (m : ℕ) → AreLines lines → bytes ≡ flat_map line lines ++ rest → lines_read start lines ≡ Some st → m ≤ length lines → GoesWellFor IsBundleText m bytes
-goes_well_before lines bytes rest st m clean parts e le =
-    let cut : take m lines ++ drop m lines ≡ lines = take-append-drop m lines in
-    let a = bind_some (lines_read start (take m lines)) (λ (next : State). lines_read next (drop m lines)) st (sym (lines_read-append start (take m lines) (drop m lines)) ∙ ap (lines_read start) cut ∙ e) in
-    let spelled : flat_map line lines ≡ flat_map line (take m lines) ++ flat_map line (drop m lines) = ap (flat_map line) (sym cut) ∙ flat_map-append line (take m lines) (drop m lines) in
-    let here : bytes ≡ flat_map line (take m lines) ++ (flat_map line (drop m lines) ++ rest) =
-    parts ∙ ap (λ (r : List ℕ). r ++ rest) spelled ∙ append_assoc (flat_map line (take m lines)) (flat_map line (drop m lines)) rest in
-    subst (λ (n : ℕ). GoesWellFor IsBundleText n bytes) (length-take-le m lines le)
-    (goes_well (take m lines) bytes (flat_map line (drop m lines) ++ rest) a.0 (All-front (λ l. is_line l ≡ true) (take m lines) (drop m lines) (subst AreLines (sym cut) clean)) here a.1)
-
 -- the lines that a bundle text begins with are read
 read_front : (lines : List (List ℕ)) (whole : List ℕ) → AreLines lines → IsBundleText whole → BeginsWith lines whole → (st : State) × (lines_read start lines ≡ Some st)
 read_front lines whole clean text_of begins =
@@ -223,7 +161,7 @@ pub names : (bytes rest : List ℕ) (number : ℕ) (st : State) → Progress byt
 names bytes rest number st so stuck = (
   omega (arith, so.count),
   no_further bytes rest number st so stuck,
-  λ m below. goes_well_before so.lines bytes rest st m so.clean so.parts so.read (omega (arith, so.count, below)),
+  λ m below. goes_well-less IsBundleText m (length so.lines) bytes (omega (arith, so.count, below)) (goes_well so.lines bytes rest st so.clean so.parts so.read),
 )
 
 -- a text where reading ends before the last line is no bundle text

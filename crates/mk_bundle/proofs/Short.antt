@@ -4,6 +4,7 @@ use Rattle.std.specs.Prelude.{codes, decimal, flat_map, bytes_eq, ◌&&◌}
 use Rattle.std.specs.List.{AllByRecursion}
 use Rattle.std.proofs.lemmas.Bool.{and_parts}
 use Rattle.std.proofs.lemmas.Fmt.{length-decimal-le}
+use Rattle.mk_lines.specs.declared.words.TheConstants.{MOST_LINE}
 use Rattle.mk_field.specs.declared.field.FieldId.{FieldId}
 use Rattle.mk_field.specs.declared.field.FieldId.TheVariants.{Gf2, Gf256}
 use Rattle.mk_field.specs.Digits.{hex_byte}
@@ -18,16 +19,16 @@ use Rattle.mk_code.specs.Listing.{Listing, trace_len}
 use Rattle.mk_rules.specs.Claimed.{Claimed}
 use Rattle.mk_lines.specs.Words.{line, operand_word}
 use Rattle.mk_lines.specs.CertLines.{pair_words, mapped_words}
-use Rattle.mk_lines.specs.CodeLines.{position_word}
-use Rattle.mk_lines.specs.Parsing.{after, map_of, operand_of, op_of, instr_of, instr_at, add_at, mul_or_map_at, rnd_at, const_or_copy_at, sq_at, positions_of}
+use Rattle.mk_lines.specs.CodeLines.{field_line, position_word}
+use Rattle.mk_lines.specs.Parsing.{field_of, after, map_of, operand_of, op_of, instr_of, instr_at, add_at, mul_or_map_at, rnd_at, const_or_copy_at, sq_at, positions_of}
 use Rattle.mk_lines.proofs.Steps.{bind_some, passed, behind_found, is_word, chosen}
 use Rattle.mk_lines.proofs.Spelled.{map_found, operand_of_found, positions_found, number_words}
 use Rattle.mk_lines.proofs.Variants.{op_words, op_found, instr_words, instr_found, InstrFits}
-use Rattle.mk_bundle.specs.Text.{field_line}
 use Rattle.mk_bundle.specs.declared.draft.Stage.{Stage}
 use Rattle.mk_bundle.specs.declared.draft.Stage.TheVariants.{Version, Field, Order, Secrets, Publics, Upper, Lower, Ended}
-use Rattle.mk_bundle.specs.Reading.{State, version_line, field_line_of, field_read, headed, order_read, secrets_read, publics_read, map_read, block_read, claim_read, code_read, upper_read, fits_at, may_instr, instr_read, out_read, lower_read, read_at}
-use Rattle.mk_bundle.proofs.Sound.{at, Good, field_of_found, headed_found, fits_found}
+use Rattle.mk_bundle.specs.Reading.{State, version_line, field_read, headed, order_read, secrets_read, publics_read, map_read, block_read, claim_read, code_read, upper_read, fits_at, may_instr, instr_read, out_read, lower_read, read_at}
+use Rattle.mk_lines.proofs.Fields.{field_found}
+use Rattle.mk_bundle.proofs.Sound.{at, Good, headed_found, fits_found}
 use Rattle.mk_bundle.proofs.Complete.{instr_fits, short_trace}
 
 -- ---- words
@@ -97,7 +98,7 @@ positions_short len (p ∷ ps) small all =
 -- ---- lines
 
 -- a line that says a name and a number
-headed_short : (name : List ℕ) (most : ℕ) (l : List ℕ) (n : ℕ) → length name ≤ 16 → most < 2 ^ 32 → headed name most l ≡ Some n → length l < 192
+headed_short : (name : List ℕ) (most : ℕ) (l : List ℕ) (n : ℕ) → length name ≤ 16 → most < 2 ^ 32 → headed name most l ≡ Some n → length l < MOST_LINE
 headed_short name most l n few small e =
     let h = headed_found name most l n e in
     let le : n ≤ most = h.1 in
@@ -105,7 +106,7 @@ headed_short name most l n few small e =
     omega (arith, ap length h.0, length-append name (decimal n), ten_digits n below, few)
 
 -- a line between the head and the code
-upper_short : (code : Listing) (cert : Claimed) (l : List ℕ) (next : State) → upper_read (at Upper code cert) l ≡ Some next → length l < 192
+upper_short : (code : Listing) (cert : Claimed) (l : List ℕ) (next : State) → upper_read (at Upper code cert) l ≡ Some next → length l < MOST_LINE
 unfolding upper_read map_read block_read claim_read code_read
 upper_short code cert l next e = elim (behind_found (codes "map ") l _ _ next e) [
   | inl h ↦ (let a = bind_some (map_of h.0) _ next h.2 in
@@ -125,7 +126,7 @@ upper_short code cert l next e = elim (behind_found (codes "map ") l _ _ next e)
 ]
 
 -- a line of the code
-lower_short : (code : Listing) (cert : Claimed) (l : List ℕ) (next : State) → Good Lower code cert → lower_read (at Lower code cert) l ≡ Some next → length l < 192
+lower_short : (code : Listing) (cert : Claimed) (l : List ℕ) (next : State) → Good Lower code cert → lower_read (at Lower code cert) l ≡ Some next → length l < MOST_LINE
 unfolding lower_read out_read instr_read may_instr
 lower_short code cert l next good e =
     let listing = good.pair.listing in
@@ -145,15 +146,15 @@ lower_short code cert l next good e =
     ]
 
 -- a line that names a field
-field_short : (l : List ℕ) (field : FieldId) → field_line field ≡ line l → length l < 192
+field_short : (l : List ℕ) (field : FieldId) → field_line field ≡ line l → length l < MOST_LINE
 field_short l Gf2 e = omega (arith, ap length e, length-append l (10 ∷ []))
 field_short l Gf256 e = omega (arith, ap length e, length-append l (10 ∷ []))
 
 -- any line that is read
-pub line_short : (stage : Stage) (code : Listing) (cert : Claimed) (l : List ℕ) (next : State) → Good stage code cert → read_at stage (at stage code cert) l ≡ Some next → length l < 192
+pub line_short : (stage : Stage) (code : Listing) (cert : Claimed) (l : List ℕ) (next : State) → Good stage code cert → read_at stage (at stage code cert) l ≡ Some next → length l < MOST_LINE
 unfolding read_at version_line field_read order_read secrets_read publics_read
 line_short Version code cert l next good e = let h = passed (bytes_eq l (codes "mask 1")) _ next e in omega (arith, ap length (is_word l (codes "mask 1") h.0))
-line_short Field code cert l next good e = let a = bind_some (field_line_of l) _ next e in field_short l a.0 (field_of_found l a.0 a.1)
+line_short Field code cert l next good e = let a = bind_some (field_of l) _ next e in field_short l a.0 (field_found l a.0 a.1)
 line_short Order code cert l next good e = let a = bind_some (headed (codes "order ") 8 l) _ next e in headed_short (codes "order ") 8 l a.0 (omega arith) (omega arith) a.1
 line_short Secrets code cert l next good e = let a = bind_some (headed (codes "secrets ") 65536 l) _ next e in headed_short (codes "secrets ") 65536 l a.0 (omega arith) (omega arith) a.1
 line_short Publics code cert l next good e = let a = bind_some (headed (codes "publics ") 65536 l) _ next e in headed_short (codes "publics ") 65536 l a.0 (omega arith) (omega arith) a.1
@@ -163,7 +164,7 @@ line_short Ended code cert l next good e = absurd cc
 
 -- no empty line is read
 pub empty_stuck : (stage : Stage) (st : State) → read_at stage st [] ≡ None
-unfolding read_at version_line field_read field_line_of order_read secrets_read publics_read headed upper_read code_read lower_read instr_read instr_of instr_at add_at mul_or_map_at rnd_at const_or_copy_at sq_at after
+unfolding read_at version_line field_read field_of order_read secrets_read publics_read headed upper_read code_read lower_read instr_read instr_of instr_at add_at mul_or_map_at rnd_at const_or_copy_at sq_at after
 empty_stuck Version st = refl
 empty_stuck Field st = refl
 empty_stuck Order st = refl

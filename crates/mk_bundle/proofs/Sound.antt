@@ -22,16 +22,17 @@ use Rattle.mk_rules.specs.Claimed.{Claimed}
 use Rattle.mk_lines.specs.Words.{line}
 use Rattle.mk_ssa.specs.Widths.{OperandFits, OpFits}
 use Rattle.mk_lines.specs.CertLines.{op_line, claim_line}
-use Rattle.mk_lines.specs.CodeLines.{map_line, instr_line, out_line, out_lines}
+use Rattle.mk_lines.specs.CodeLines.{field_line, map_line, instr_line, out_line, out_lines}
 use Rattle.mk_field.specs.Maps.{MapFits}
-use Rattle.mk_bundle.specs.Text.{field_line, number_line, head_lines, upper_text, lower_text, text}
+use Rattle.mk_bundle.specs.Text.{number_line, head_lines, upper_text, lower_text, text}
 use Rattle.mk_rules.specs.Pairs.{IsPair}
 use Rattle.mk_bundle.specs.declared.draft.Stage.{Stage}
 use Rattle.mk_bundle.specs.declared.draft.Stage.TheVariants.{Version, Field, Order, Secrets, Publics, Upper, Lower, Ended}
-use Rattle.mk_lines.specs.Parsing.{◌>>=◌, after, number_of, map_of, operand_of, op_of, instr_of, positions_of}
-use Rattle.mk_bundle.specs.Reading.{State, version_line, field_line_of, field_read, headed, order_read, secrets_read, publics_read, may_map, map_read, may_block, block_read, claim_read, code_read, upper_read, fits_at, may_instr, instr_read, out_read, lower_read, read_at}
+use Rattle.mk_lines.specs.Parsing.{field_of, ◌>>=◌, after, number_of, map_of, operand_of, op_of, instr_of, positions_of}
+use Rattle.mk_bundle.specs.Reading.{State, version_line, field_read, headed, order_read, secrets_read, publics_read, may_map, map_read, may_block, block_read, claim_read, code_read, upper_read, fits_at, may_instr, instr_read, out_read, lower_read, read_at}
 use Rattle.mk_bundle.proofs.Appended.{out_lines-none}
 use Rattle.mk_lines.proofs.Steps.{bind_some, same_some, chosen, passed, not_passed, after_found, behind_found, is_word}
+use Rattle.mk_lines.proofs.Fields.{field_found}
 use Rattle.mk_lines.proofs.Numbers.{number_of_found}
 use Rattle.mk_lines.proofs.Spelled.{map_found, operand_of_found, positions_found}
 use Rattle.mk_lines.proofs.Variants.{op_line-words, op_found, instr_line-words, instr_found}
@@ -156,26 +157,17 @@ version_goes code cert l next good e =
     let is : l ≡ codes "mask 1" = is_word l (codes "mask 1") h.0 in
     subst (Goes Version code cert l) (same_some (at Field code cert) next h.1) (record { good = record { pair = good.pair; blank = good.blank }; more = ap line (sym is) })
 
--- a line that names a field is the line of that field
-pub field_of_found : (l : List ℕ) (field : FieldId) → field_line_of l ≡ Some field → field_line field ≡ line l
-unfolding field_line_of
-field_of_found l field e = elim (chosen (bytes_eq l (codes "field gf2")) (Some Gf2) (cond (bytes_eq l (codes "field gf256")) (Some Gf256) None) (Some field) e) [
-  | inl h ↦ ap field_line (sym (same_some Gf2 field h.1)) ∙ ap line (sym (is_word l (codes "field gf2") h.0))
-  | inr h ↦ (let g = passed (bytes_eq l (codes "field gf256")) (Some Gf256) field h.1 in
-      ap field_line (sym (same_some Gf256 field g.1)) ∙ ap line (sym (is_word l (codes "field gf256") g.0)))
-]
-
 -- the field's line, if it is read, goes on with the text so far
 field_goes : (code : Listing) (cert : Claimed) (l : List ℕ) (next : State) → Good Field code cert → field_read (at Field code cert) l ≡ Some next → Goes Field code cert l next
 unfolding field_read
 field_goes code cert l next good e =
-    let h = bind_some (field_line_of l) (λ (field : FieldId). Some (at Order (record code { field = field }) cert)) next e in
+    let h = bind_some (field_of l) (λ (field : FieldId). Some (at Order (record code { field = field }) cert)) next e in
     let made : Listing = record code { field = h.0 } in
     let fresh = refreshed code made cert good.blank refl refl refl in
     let listing = good.pair.listing in
     subst (Goes Field code cert l) (same_some (at Order made cert) next h.2) (record {
       good = record { pair = fresh_pair made cert fresh listing.order listing.secrets listing.publics; blank = fresh };
-      more = ap (λ (r : List ℕ). line (codes "mask 1") ++ r) (field_of_found l h.0 h.1);
+      more = ap (λ (r : List ℕ). line (codes "mask 1") ++ r) (field_found l h.0 h.1);
     })
 
 -- a line from which a number is read is the name and that number, which is within the limit

@@ -3,13 +3,15 @@ use Rattle.std.proofs.Common.{◌≡◌, ℕ, ◌+◌, ◌-◌, ◌<◌, ◌≤�
 use Rattle.std.specs.Prelude.{codes, flat_map, nat_lt, ◌==◌, map}
 use Rattle.std.proofs.lemmas.List.{append-nil}
 use Rattle.std.proofs.Math.Seq.{drop-append-add}
+use Rattle.mk_lines.specs.declared.words.TheConstants.{MOST_LINE}
+use Rattle.mk_bundle.specs.declared.TheConstants.{MOST_HELD}
 use Rattle.mk_code.specs.Listing.{Listing}
 use Rattle.mk_rules.specs.Claimed.{Claimed}
 use Rattle.mk_lines.specs.Words.{line, is_line}
-use Rattle.mk_lines.specs.CodeLines.{map_line}
+use Rattle.mk_lines.specs.CodeLines.{field_line, map_line}
 use Rattle.mk_lines.specs.Lines.{NamesFirst}
 use Rattle.mk_lines.proofs.Steps.{same_some}
-use Rattle.mk_bundle.specs.Text.{field_line, number_line, head_lines, upper_text}
+use Rattle.mk_bundle.specs.Text.{number_line, head_lines, upper_text}
 use Rattle.mk_bundle.specs.Pairs.{IsBundleText}
 use Rattle.mk_bundle.specs.declared.draft.Stage.{Stage}
 use Rattle.mk_bundle.specs.declared.draft.Stage.TheVariants.{Version, Field, Order, Secrets, Publics, Upper, Lower, Ended}
@@ -115,8 +117,8 @@ pub all_told : (old : Reader) (taken : List ℕ) (events : List Event) → old.w
 all_told old taken events free r = sym (append-nil events) ∙ ap (λ (w : Option Event). events ++ listed w) (sym free) ∙ r.told
 
 -- where no event waits, the bytes that are held are few
-few_held : (old : Reader) (taken : List ℕ) (events : List Event) → old.waiting ≡ None → Read old taken events → length old.pending ≤ 4096
-few_held old taken events free r = subst (λ (w : Option Event). length (flat_map event_text (listed w) ++ old.pending) ≤ 4096) free r.short
+few_held : (old : Reader) (taken : List ℕ) (events : List Event) → old.waiting ≡ None → Read old taken events → length old.pending ≤ MOST_HELD
+few_held old taken events free r = subst (λ (w : Option Event). length (flat_map event_text (listed w) ++ old.pending) ≤ MOST_HELD) free r.short
 
 -- a reader keeps whether the lines of the maps ended
 begun_kept : (old : Reader) (taken : List ℕ) (events : List Event) → (r : Read old taken events) → has_begun old.seen.stage old.seen.blocks old.seen.claims ≡ begun r.state
@@ -242,7 +244,7 @@ reads_head old new seen e l behind free clean here counted started differs is ta
 -- the event that waits is answered
 pub reads_waiting : (old new : Reader) (e : Event) → old.waiting ≡ Some e → new ≡ record old { waiting = None } → (taken : List ℕ) (events : List Event) → Read old taken events → Read new taken (events ++ e ∷ [])
 reads_waiting old new e waits is taken events r =
-    let short : length ((event_text e ++ []) ++ old.pending) ≤ 4096 = subst (λ (w : Option Event). length (flat_map event_text (listed w) ++ old.pending) ≤ 4096) waits r.short in
+    let short : length ((event_text e ++ []) ++ old.pending) ≤ MOST_HELD = subst (λ (w : Option Event). length (flat_map event_text (listed w) ++ old.pending) ≤ MOST_HELD) waits r.short in
     subst (λ (n : Reader). Read n taken (events ++ e ∷ [])) (sym is) (record {
       lines = r.lines;
       state = r.state;
@@ -308,7 +310,7 @@ front_long (x ∷ p) c (y ∷ l) b clean e =
     unfed false r e = e
 
 -- the first line is long
-pub wrong_long : (old : Reader) → is_line old.pending ≡ true → 192 ≤ length old.pending → IsGoing old → (taken : List ℕ) (events : List Event) → Read old taken events → GoesWrong old.lines taken
+pub wrong_long : (old : Reader) → is_line old.pending ≡ true → MOST_LINE ≤ length old.pending → IsGoing old → (taken : List ℕ) (events : List Event) → Read old taken events → GoesWrong old.lines taken
 wrong_long old clean long going taken events r =
     let st = r.state in
     let good = (reached r.lines st r.read).0 in

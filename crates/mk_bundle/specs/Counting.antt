@@ -10,12 +10,12 @@ use Rattle.mk_rules.specs.declared.TheConstants.{TEXT_TOP_ORDER, MOST_BLOCKS, MO
 use Rattle.mk_bundle.specs.declared.draft.Draft.{Draft}
 use Rattle.mk_bundle.specs.declared.draft.Stage.{Stage}
 use Rattle.mk_bundle.specs.declared.draft.Stage.TheVariants.{Version, Field, Order, Secrets, Publics, Upper, Lower, Ended}
-use Rattle.mk_bundle.specs.declared.draft.LineRefusal.{LineRefusal}
-use Rattle.mk_bundle.specs.declared.draft.LineRefusal.TheVariants as refusals
+use Rattle.mk_lines.specs.declared.refusal.LineRefusal.{LineRefusal}
+use Rattle.mk_lines.specs.declared.refusal.LineRefusal.TheVariants as refusals
 use Rattle.mk_bundle.specs.declared.event.Event.{Event}
 use Rattle.mk_bundle.specs.declared.event.Event.TheVariants as event
-use Rattle.mk_lines.specs.Parsing.{◌>>=◌, after, map_of, operand_of, op_of, instr_of, behind, positions_of}
-use Rattle.mk_bundle.specs.Reading.{State, field_line_of, headed, fits_at}
+use Rattle.mk_lines.specs.Parsing.{◌>>=◌, after, field_of, map_of, operand_of, op_of, instr_of, behind, positions_of}
+use Rattle.mk_bundle.specs.Reading.{State, headed, fits_at}
 
 -- what is kept of what was read: where the next line stands, the head, the maps of which no event told yet, and
 -- how many maps, blocks, claims, instructions and positions of outputs there were
@@ -81,12 +81,6 @@ Steps (Ok told) new read = read ≡ Some (new, told)
 Steps (Err refusals.Form) new read = read ≡ None
 Steps (Err refusals.Memory) new read = Unit {0}
 
--- what a function that reads positions returned is what reading gives, unless memory ran out
-abbrev pub Gives : Result (List ℕ) LineRefusal → Option (List ℕ) → Type 0
-Gives (Ok positions) read = read ≡ Some positions
-Gives (Err refusals.Form) read = read ≡ None
-Gives (Err refusals.Memory) read = Unit {0}
-
 -- the line of the form's version
 unfoldable pub version_counted : Seen → List ℕ → Counted
 version_counted seen line = if bytes_eq line (codes "mask 1") then Some (record seen { stage = Field }, None) else None
@@ -94,7 +88,7 @@ version_counted seen line = if bytes_eq line (codes "mask 1") then Some (record 
 -- the line of the field
 unfoldable pub field_counted : Seen → List ℕ → Counted
 field_counted seen line = do
-  field ← field_line_of line
+  field ← field_of line
   Some (record seen { stage = Order; field = field }, None)
 
 -- the line of the order, which is 1 to 8

@@ -1,7 +1,7 @@
 -- Reading a bundle text line by line, up to the pair that it is the text of.
 use Rattle.std.specs.Prelude.{ℕ, ◌+◌, ◌*◌, Bool, true, ◌&&◌, List, [], ◌∷◌, ◌++◌, length, Option, Some, None, nat_lt, bytes_eq, codes, if◌then◌else◌}
 use Rattle.mk_field.specs.declared.field.FieldId.{FieldId}
-use Rattle.mk_field.specs.declared.field.FieldId.TheVariants.{Gf2, Gf256}
+use Rattle.mk_field.specs.declared.field.FieldId.TheVariants.{Gf2}
 use Rattle.mk_field.specs.Field.{size, has_maps}
 use Rattle.mk_code.specs.declared.instr.Instr.{Instr}
 use Rattle.mk_code.specs.declared.instr.Instr.TheVariants.{Rnd, Const, Copy, Add, Mul, Sq, Map}
@@ -11,7 +11,7 @@ use Rattle.mk_rules.specs.declared.TheConstants.{TEXT_TOP_ORDER, MOST_BLOCKS, MO
 use Rattle.mk_rules.specs.Claimed.{Claimed}
 use Rattle.mk_bundle.specs.declared.draft.Stage.{Stage}
 use Rattle.mk_bundle.specs.declared.draft.Stage.TheVariants.{Version, Field, Order, Secrets, Publics, Upper, Lower, Ended}
-use Rattle.mk_lines.specs.Parsing.{◌>>=◌, after, number_of, map_of, operand_of, op_of, instr_of, behind, positions_of}
+use Rattle.mk_lines.specs.Parsing.{◌>>=◌, after, field_of, number_of, map_of, operand_of, op_of, instr_of, behind, positions_of}
 
 -- what was read so far: where the next line stands, and the pair that the text has if only the lines
 -- that must come do come
@@ -32,16 +32,10 @@ start = record {
 unfoldable pub version_line : State → List ℕ → Option State
 version_line st line = if bytes_eq line (codes "mask 1") then Some (record st { stage = Field }) else None
 
--- the field that the line of the field names
-unfoldable pub field_line_of : List ℕ → Option FieldId
-field_line_of line =
-    if bytes_eq line (codes "field gf2") then Some Gf2 else (
-    if bytes_eq line (codes "field gf256") then Some Gf256 else None)
-
 -- the line of the field
 unfoldable pub field_read : State → List ℕ → Option State
 field_read st line = do
-  field ← field_line_of line
+  field ← field_of line
   Some (record st { stage = Order; code = record st.code { field = field } })
 
 -- the number in a line that begins so, at most `most`

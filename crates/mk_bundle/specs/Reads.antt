@@ -1,5 +1,6 @@
 -- What a reader answered of the bytes that it took.
 use Rattle.std.specs.Prelude.{◌≡◌, ℕ, ◌+◌, ◌-◌, ◌*◌, ◌≤◌, ◌<◌, List, [], ◌∷◌, ◌++◌, length, flat_map, Option, Some, None, IfSome, Result, Ok, Err, if◌then◌else◌}
+use Rattle.mk_bundle.specs.declared.TheConstants.{MOST_HELD}
 use Rattle.mk_code.specs.Listing.{Listing}
 use Rattle.mk_rules.specs.Claimed.{Claimed}
 use Rattle.mk_rules.specs.declared.cert.Bundle.{Bundle}
@@ -52,17 +53,17 @@ pub record Read (reader : Reader) (taken : List ℕ) (events : List Event) : Typ
   pub told : events ++ listed reader.waiting ≡ events_at state.stage state.code state.cert
   pub count : reader.count ≡ length taken
   pub within : reader.count ≤ reader.limit
-  pub short : length (flat_map event_text (listed reader.waiting) ++ reader.pending) ≤ 4096
+  pub short : length (flat_map event_text (listed reader.waiting) ++ reader.pending) ≤ MOST_HELD
   pub other : reader.waiting ≡ Some event.End → ⊥
 
 -- what holds of the bytes and the events so far: the events are the first ones of some pair, at most as many as bytes
--- may come, the bytes begin with the lines for which they stand, and behind these are at most 4,096
+-- may come, the bytes begin with the lines for which they stand, and behind these are at most MOST_HELD
 pub record Follows (limit : ℕ) (taken : List ℕ) (events : List Event) : Type 0 where
   pub first : AreFirst events
   pub few : length events ≤ limit
   pub behind : List ℕ
   pub stands : taken ≡ flat_map event_text events ++ behind
-  pub short : length behind ≤ 4096
+  pub short : length behind ≤ MOST_HELD
 
 -- the bytes are the text of the pair whose events these are, and the source was read to its end
 pub record Completes (taken : List ℕ) (events : List Event) (before after : Option (List ℕ)) : Type 0 where

@@ -1,5 +1,7 @@
 -- How a reader steps from line to line: for the contracts inside the crate.
 use Rattle.std.specs.Prelude.{◌≡◌, ℕ, ◌+◌, ◌≤◌, ◌<◌, Bool, true, false, List, [], ◌∷◌, ◌++◌, length, Option, Some, None, IfSome, Result, Ok, Err}
+use Rattle.mk_lines.specs.declared.words.TheConstants.{MOST_LINE}
+use Rattle.mk_bundle.specs.declared.TheConstants.{MOST_HELD}
 use Rattle.mk_lines.specs.Words.{is_line}
 use Rattle.mk_lines.specs.Lines.{NamesFirst}
 use Rattle.mk_bundle.specs.Pairs.{IsBundleText}
@@ -46,7 +48,7 @@ pub record Reached (old new : Reader) : Type 0 where
 pub record Starves (old new : Reader) : Type 0 where
   pub same : new ≡ old
   pub clean : is_line old.pending ≡ true
-  pub short : length old.pending < 192
+  pub short : length old.pending < MOST_LINE
 
 -- no bundle text goes on
 pub record Sticks (old new : Reader) : Type 0 where
@@ -85,7 +87,7 @@ pub record Grown (n : ℕ) (old new : Reader) (before after : Option (List ℕ))
   pub number : length came ≡ n
   pub held : new ≡ record old { pending = old.pending ++ came; count = old.count + n }
   pub within : old.count + n ≤ old.limit
-  pub short : length new.pending ≤ 4096
+  pub short : length new.pending ≤ MOST_HELD
   pub end : n ≡ 0 → IfSome before (λ rest. rest ≡ [])
 
 -- what a piece more gives a reader

@@ -1,6 +1,7 @@
 -- What a reader holds of a source: bytes that came and were not read yet.
 use Rattle.std.specs.Prelude.{◌≡◌, ℕ, ◌+◌, ◌≤◌, ◌<◌, true, List, [], ◌∷◌, ◌++◌, length, Option, Some, None, IfSome, Result, Ok, Err}
 use Rattle.std.specs.Borrow.{Bor}
+use Rattle.mk_bundle.specs.declared.TheConstants.{MOST_HELD}
 use Rattle.mk_code.specs.declared.instr.Instr.{Instr}
 use Rattle.mk_lines.specs.Words.{is_line}
 use Rattle.mk_lines.specs.Parsing.{instr_of}
@@ -24,7 +25,7 @@ pub record Fed (n : ℕ) (old new : Held) (before after : Option (List ℕ)) : T
   pub number : length came ≡ n
   pub held : new ≡ record { pending = old.pending ++ came; count = old.count + n; limit = old.limit }
   pub within : old.count + n ≤ old.limit
-  pub short : length new.pending ≤ 4096
+  pub short : length new.pending ≤ MOST_HELD
   pub end : n ≡ 0 → IfSome before (λ rest. rest ≡ [])
 
 -- more bytes came than may come

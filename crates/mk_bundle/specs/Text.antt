@@ -1,17 +1,10 @@
 -- The bundle text of a code and its certificate.
 use Rattle.std.specs.Prelude.{ℕ, ◌+◌, ◌/◌, List, ◌++◌, length, flat_map, codes, decimal}
-use Rattle.mk_field.specs.declared.field.FieldId.{FieldId}
-use Rattle.mk_field.specs.declared.field.FieldId.TheVariants.{Gf2, Gf256}
 use Rattle.mk_code.specs.Listing.{Listing}
 use Rattle.mk_rules.specs.Claimed.{Claimed}
 use Rattle.mk_lines.specs.Words.{line}
 use Rattle.mk_lines.specs.CertLines.{op_line, claim_line}
-use Rattle.mk_lines.specs.CodeLines.{map_line, instr_line, out_lines}
-
--- the line of a field
-abbrev pub field_line : FieldId → List ℕ
-field_line Gf2 = line (codes "field gf2")
-field_line Gf256 = line (codes "field gf256")
+use Rattle.mk_lines.specs.CodeLines.{field_line, map_line, instr_line, out_lines}
 
 -- a number with its name
 abbrev pub number_line : List ℕ → ℕ → List ℕ

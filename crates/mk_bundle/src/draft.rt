@@ -5,16 +5,17 @@ ghost use Rattle.mk_bundle.specs.declared.draft.Stage.TheVariants.{Lower, Ended}
 ghost use Rattle.mk_field.specs.Field.{size};
 ghost use Rattle.mk_code.specs.declared.TheConstants.{MOST_MAPS, MOST_INSTRS};
 ghost use Rattle.mk_rules.specs.declared.TheConstants.{MOST_BLOCKS};
-ghost use Rattle.mk_lines.specs.Parsing.{positions_of};
 ghost use Rattle.mk_bundle.specs.Events.{has_begun};
-ghost use Rattle.mk_bundle.specs.Reading.{start, field_line_of, headed, fits_at};
-ghost use Rattle.mk_bundle.specs.Counting.{seen_of, summary, HasBounds, Steps, Gives, entries, version_counted, field_counted, order_counted, secrets_counted, publics_counted, map_counts, map_counted, block_counts, block_counted, claim_counted, code_counted, upper_counted, instr_counts, instr_counted, out_counted, lower_counted, line_counted};
+ghost use Rattle.mk_bundle.specs.Reading.{start, headed, fits_at};
+ghost use Rattle.mk_bundle.specs.Counting.{seen_of, summary, HasBounds, Steps, entries, version_counted, field_counted, order_counted, secrets_counted, publics_counted, map_counts, map_counted, block_counts, block_counted, claim_counted, code_counted, upper_counted, instr_counts, instr_counted, out_counted, lower_counted, line_counted};
 
 use crate::event::{Event, Head};
-use mk_base::{Items, Memory};
-use mk_code::{Instr, MOST_INPUTS, MOST_INSTRS, MOST_MAPS, MapList, PositionList};
+use mk_base::Items;
+use mk_code::{Instr, MOST_INPUTS, MOST_INSTRS, MOST_MAPS, MapList};
 use mk_field::FieldId;
-use mk_lines::{after, instr_of, map_of, number_at, number_of, op_of, operand_of};
+use mk_lines::{
+    LineRefusal, after, field_of, instr_of, map_of, number_of, op_of, operand_of, positions_of,
+};
 use mk_rules::{MOST_BLOCKS, MOST_CLAIMS, TEXT_TOP_ORDER};
 use std::alloc::Global;
 use std::mem;
@@ -62,26 +63,6 @@ pub(crate) struct Draft {
     pub outs: u32,
 }
 
-/// Why a line doesn't go on with a draft.
-#[derive(Clone, Copy, Debug, PartialEq, Eq)]
-pub(crate) enum LineRefusal {
-    /// No bundle text has this line here.
-    Form,
-    /// Memory was wanted and not found.
-    Memory,
-}
-
-impl From<Memory> for LineRefusal {
-    ghost use Rattle.std.specs.Prelude.{◌≡◌};
-    ghost use Rattle.mk_bundle.specs.declared.draft.LineRefusal.TheVariants.{Memory};
-
-    ghost from_gives = { λ _ e. e ≡ Memory };
-
-    fn from(_memory: Memory) -> LineRefusal {
-        LineRefusal::Memory
-    }
-}
-
 /// What a line is refused for, or the event that it gives, if it has one of its own.
 type Line = Result<Option<Event>, LineRefusal>;
 
@@ -117,20 +98,6 @@ fn read_version(draft: &mut Draft, line: &[u8]) -> Line
     }
     draft.stage = Stage::Field;
     Ok(None)
-}
-
-/// The field of its line.
-#[tactic(auto, unfolding(crate::specs::Reading::field_line_of))]
-fn field_of(line: &[u8]) -> Option<FieldId>
-    ensures { result ≡ field_line_of line.now }
-{
-    if line == b"field gf2".as_slice() {
-        return Some(FieldId::Gf2);
-    }
-    if line == b"field gf256".as_slice() {
-        return Some(FieldId::Gf256);
-    }
-    None
 }
 
 /// The line of the field.
@@ -366,36 +333,6 @@ fn read_instr(draft: &mut Draft, line: &[u8]) -> Line
     }
     count_instr(draft);
     Ok(Some(Event::Instr(instr)))
-}
-
-/// So many positions below `len`, a space before each and nothing behind them.
-fn positions_of(
-    alloc: Global,
-    count: u32,
-    len: u32,
-    words: &[u8],
-) -> Result<PositionList, LineRefusal>
-    ensures { Gives result (positions_of count len words.now) }
-{
-    let mut positions = Items::new(alloc);
-    let mut rest = words;
-    for _ in 0..count {
-        let Some(word) = after(b" ", rest) else {
-            return Err(LineRefusal::Form);
-        };
-        let Some((position, behind)) = number_at(word) else {
-            return Err(LineRefusal::Form);
-        };
-        if position >= len {
-            return Err(LineRefusal::Form);
-        }
-        positions.push(position)?;
-        rest = behind;
-    }
-    if !rest.is_empty() {
-        return Err(LineRefusal::Form);
-    }
-    Ok(positions)
 }
 
 /// The line of an output, behind its first word.

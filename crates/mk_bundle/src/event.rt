@@ -4,7 +4,8 @@ use mk_code::{Instr, MapList, PositionList};
 use mk_field::FieldId;
 use mk_ssa::{Op, Operand};
 
-/// What stands before the blocks.
+/// What stands before the blocks: the field, the order, the numbers of secrets and of publics, and the additive maps
+/// in the order of their lines.
 #[derive(Debug, Drop)]
 pub struct Head {
     pub field: FieldId,
@@ -27,7 +28,8 @@ pub enum Event {
     Code,
     /// An instruction.
     Instr(Instr),
-    /// The positions of the shares of an output.
+    /// The positions in the trace of the shares of an output, that of share 0 first: one more than the order says, each
+    /// below the number of entries.
     Out(PositionList),
     /// The last line, at the end of the text.
     End,

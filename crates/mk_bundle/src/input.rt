@@ -2,24 +2,22 @@
 
 ghost use Rattle.std.specs.Prelude.{◌≡◌, ◌≤◌, ◌<◌, ◌+◌, ◌++◌, [], Err, ℕ, IfOk, IfSome, IfNone, OnOk, OnErr, length, drop};
 ghost use Rattle.mk_base.specs.Outside.{Rose};
+ghost use Rattle.mk_lines.specs.declared.words.TheConstants.{MOST_LINE};
+ghost use Rattle.mk_bundle.specs.declared.TheConstants.{MOST_HELD};
+ghost use Rattle.mk_bundle.specs.declared.input.TheConstants.{PIECE};
 ghost use Rattle.mk_bundle.specs.declared.refusal.StreamRefusal.TheVariants as refusals;
 
+use crate::MOST_HELD;
 use crate::refusal::StreamRefusal;
 use arrayvec::ArrayVec;
 use mk_base::{Memory, Source};
 use mk_code::Instr;
-use mk_lines::{cut, instr_at};
+use mk_lines::{MOST_LINE, cut, instr_at};
 use std::alloc::Global;
 use std::marker::Model;
 
-/// So many bytes are held at most.
-const MOST_HELD: usize = 4096;
-
-/// Fewer bytes than this are held before more are asked for. No line of a bundle text has as many.
-pub(crate) const MOST_LINE: usize = 192;
-
-/// So many bytes are asked of a source at once.
-const PIECE: usize = 3904;
+/// So many bytes are asked of a source at once, where fewer than those of the longest line are held.
+const PIECE: usize = MOST_HELD - MOST_LINE;
 
 /// Bytes that came and were not read yet.
 #[derive(Debug, Drop)]
@@ -32,13 +30,14 @@ pub(crate) struct Input {
 
 impl Model for Input {
     ghost use Rattle.std.specs.Prelude.{◌≤◌, drop, length};
+    ghost use Rattle.mk_bundle.specs.declared.TheConstants.{MOST_HELD};
     ghost use Rattle.mk_bundle.specs.Taking.{Held};
 
     ghost Value = { Held };
 
     ghost view = { λ s. record { pending = drop s.start s.bytes.items; count = s.count; limit = s.limit } };
 
-    ghost invariant = { λ s. (s.start ≤ length s.bytes.items) × (length s.bytes.items ≤ 4096) × (s.count ≤ s.limit) };
+    ghost invariant = { λ s. (s.start ≤ length s.bytes.items) × (length s.bytes.items ≤ MOST_HELD) × (s.count ≤ s.limit) };
 }
 
 impl Input {
@@ -67,7 +66,7 @@ impl Input {
     /// How many bytes are held.
     pub(crate) fn len(&self) -> usize
         ensures value { result ≡ length self.now.pending }
-        ensures few { result ≤ 4096 }
+        ensures few { result ≤ MOST_HELD }
     {
         self.bytes.len() - self.start
     }
@@ -114,8 +113,8 @@ impl Input {
 
     /// Holds these bytes too, behind the others.
     fn append(&mut self, piece: &[u8]) -> Result<(), Memory>
-        requires few { length self.old.pending < 192 }
-        requires short { length piece.now ≤ 3904 }
+        requires few { length self.old.pending < MOST_LINE }
+        requires short { length piece.now ≤ PIECE }
         ensures ok { OnOk result (self.new ≡ record self.old { pending = self.old.pending ++ piece.now }) }
         ensures limit { self.new.limit ≡ self.old.limit }
         ensures count { self.new.count ≡ self.old.count }
@@ -148,7 +147,7 @@ impl Input {
 
     /// Asks for the next bytes, and answers how many came.
     pub(crate) fn fill<S: Source>(&mut self, src: &mut S) -> Result<usize, StreamRefusal>
-        requires { length self.old.pending < 192 }
+        requires { length self.old.pending < MOST_LINE }
         ensures fed { Feeds result self.old self.new (S.left src.old) (S.left src.new) }
         ensures limit { self.new.limit ≡ self.old.limit }
         ensures held { length self.new.pending + self.old.count ≤ self.new.count + length self.old.pending }
@@ -177,12 +176,12 @@ impl Input {
         let _room = self.room();
         let mut piece = [0u8; PIECE];
         loop {
-            let room = self.room();
+            let left = self.room();
             let count = src.read(&mut piece)?;
             if count == 0 {
                 return Ok(());
             }
-            if count > room {
+            if count > left {
                 return Err(StreamRefusal::TooLong);
             }
             self.came(count);

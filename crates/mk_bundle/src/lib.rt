@@ -35,6 +35,9 @@ mod write;
 /// The most bytes of a text that is read.
 pub const MOST_BYTES: u32 = 268_435_456;
 
+/// The most bytes that a reader takes of a source behind the lines for which the events that it answered stand.
+pub const MOST_HELD: usize = 4096;
+
 pub use collect::collect_bundle;
 pub use event::{Event, Head};
 pub use read::{BundleRefusal, read_bundle, texts_differ};

@@ -24,7 +24,8 @@ pub enum BundleRefusal {
     Memory,
 }
 
-/// The bundle whose text this is.
+/// The bundle whose text this is, which is the only one. It takes memory for the lists of the bundle, and a few
+/// kilobytes beside.
 pub fn read_bundle(alloc: Global, text: &[u8]) -> Result<Bundle, BundleRefusal>
     requires { length text.now ≤ MOST_BYTES }
     // What is read has this text.

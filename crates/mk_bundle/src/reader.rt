@@ -3,21 +3,22 @@
 
 ghost use Rattle.std.specs.Prelude.{◌≡◌, ◌≤◌, ◌<◌, ◌+◌, [], ℕ, List, Some, None, Err, IfOk, IfSome, IfNone, OnOk, length};
 ghost use Rattle.mk_base.specs.Outside.{Rose};
+ghost use Rattle.mk_lines.specs.declared.words.TheConstants.{MOST_LINE};
 ghost use Rattle.mk_bundle.specs.declared.refusal.StreamRefusal.TheVariants as refusals;
 ghost use Rattle.mk_bundle.specs.declared.draft.Stage.TheVariants.{Ended};
 ghost use Rattle.mk_bundle.specs.declared.event.Event.{Event};
 ghost use Rattle.mk_bundle.specs.declared.event.Event.TheVariants as event;
 
 use crate::draft::{
-    Draft, LineRefusal, count_instr, empty_draft, has_begun, is_ended, is_lower, may_instr,
-    read_line, told_head,
+    Draft, count_instr, empty_draft, has_begun, is_ended, is_lower, may_instr, read_line, told_head,
 };
 use crate::event::Event;
-use crate::input::{Input, MOST_LINE};
+use crate::input::Input;
 use crate::refusal::StreamRefusal;
 use crate::step::Step;
 use mk_base::{Memory, Source};
 use mk_code::Instr;
+use mk_lines::{LineRefusal, MOST_LINE};
 use std::alloc::Global;
 use std::marker::Model;
 
@@ -160,7 +161,7 @@ impl BundleReader {
 
     /// Asks for the next bytes, and answers how many came.
     fn fill<S: Source>(&mut self, src: &mut S) -> Result<usize, StreamRefusal>
-        requires { length self.old.pending < 192 }
+        requires { length self.old.pending < MOST_LINE }
         ensures grows { Grows result self.old self.new (S.left src.old) (S.left src.new) }
         ensures limit { self.new.limit ≡ self.old.limit }
         ensures fault { result ≡ Err refusals.Fault → Rose (S.faults src.old) (S.faults src.new) }
@@ -178,7 +179,9 @@ impl BundleReader {
         ensures never_falls { S.faults src.old ≤ S.faults src.new }
     {
         let line = self.next_line();
-        self.input.drain(src)?;
+        if let Err(refusal) = self.input.drain(src) {
+            return Err(refusal);
+        }
         Err(StreamRefusal::Form { line })
     }
 
@@ -243,7 +246,10 @@ impl BundleReader {
         }
     }
 
-    /// The next event.
+    /// The next event. It takes bytes of the source only where none waits, and asks for more only where no whole line is
+    /// held. `End` is answered once the source was read to its end, and nothing may be asked behind it. Where no bundle
+    /// text goes on, `Form` is answered once the source was read to its end, if no fault comes and no more bytes than the
+    /// limit; and where there are more, `TooLong`. Behind a refusal the reader says nothing more of the text.
     pub fn next<S: Source>(&mut self, src: &mut S) -> Result<Event, StreamRefusal>
         // The last event was not answered yet.
         requires { IsGoing self.old }

@@ -11,8 +11,9 @@ pub enum StreamRefusal {
     /// More bytes came than the limit.
     #[error("the input is too long")]
     TooLong,
-    /// No bundle has the bytes as its text, and none has a text that begins with the lines up to this one,
-    /// counted from 1.
+    /// No bundle has the bytes as its text, and this is the first line, counted from 1, such that no bundle has a text
+    /// that begins with the lines up to it. What stands behind the last line feed is a further line. The source was
+    /// read to its end, which came before a fault and before more bytes than the limit.
     #[error("line {line} doesn't go on with a bundle text")]
     Form { line: u32 },
     /// Memory was wanted and not found.

@@ -8,19 +8,25 @@ ghost use Rattle.mk_base.specs.declared.TheConstants.{TOP_ORDER};
 ghost use Rattle.mk_rules.specs.declared.TheConstants.{MOST_BLOCKS, MOST_CLAIMS};
 ghost use Rattle.mk_rules.specs.Pairs.{IsPair};
 ghost use Rattle.mk_bundle.specs.Passing.{Sends, Breaks, lower_rest};
+ghost use Rattle.mk_lines.specs.declared.words.TheConstants.{MOST_LINE};
 ghost use Rattle.mk_ssa.specs.Widths.{OpFits, OperandFits};
-ghost use Rattle.mk_bundle.specs.Text.{field_line, head_lines, outputs_text, upper_text, text};
+ghost use Rattle.mk_bundle.specs.Text.{head_lines, outputs_text, upper_text, text};
 
 use arrayvec::ArrayString;
 use mk_base::{Failed, Sink, write_all};
 use mk_code::{Code, Instr};
-use mk_field::{AddMap, FieldId};
-use mk_lines::{Line, push_number, spell_claim, spell_instr, spell_map, spell_op, spell_out};
+use mk_field::AddMap;
+use mk_lines::{
+    Line, field_line, push_number, spell_claim, spell_instr, spell_map, spell_op, spell_out,
+};
 use mk_rules::Cert;
 use mk_ssa::{Op, Operand};
 
+/// So many bytes are written at once at most.
+const MOST_KEPT: usize = 4096;
+
 /// What is held back until there is more of it.
-type Piece = ArrayString<4096>;
+type Piece = ArrayString<MOST_KEPT>;
 
 /// What has a line of its own.
 trait Spell: Copy {
@@ -88,7 +94,7 @@ impl Spell for Instr {
 
 /// Puts a short text behind what is held back, which is written before where there is no room for both.
 fn put<O: Sink>(out: &mut O, piece: &mut Piece, words: &str) -> Result<(), Failed>
-    requires { length words.now ≤ 192 }
+    requires { length words.now ≤ MOST_LINE }
     ensures sends { OnOk result (Sends (O.taken out.old) piece.old.bytes words.now (O.taken out.new) piece.new.bytes) }
     ensures breaks { OnErr result (Breaks (O.taken out.old) piece.old.bytes words.now (O.taken out.new)) }
     ensures failed { OnErr result (Rose (O.faults out.old) (O.faults out.new)) }
@@ -133,17 +139,6 @@ fn spell_head(line: &mut Line, code: &Code)
     line.push_str("\npublics ");
     push_number(line, code.publics());
     line.push_str("\n");
-}
-
-/// The line of a field.
-fn field_line(field: FieldId) -> &'static str
-    ensures line { result.now ≡ field_line field }
-    ensures short { length result.now ≤ 12 }
-{
-    match field {
-        FieldId::Gf2 => "field gf2\n",
-        FieldId::Gf256 => "field gf256\n",
-    }
 }
 
 /// How many shares an output has.

@@ -11,3 +11,4 @@ pub mod Stepping
 pub mod Over
 pub mod Claimed
 pub mod Verdicts
+mod Examples

@@ -109,20 +109,25 @@ module _ (plan : Plan) (is : IsPlan plan) where
       let below : position < length reads = slice_get_within reads position at (sym read) in
       rw (lt-ltb position (length reads) below) (get_or_from_slice_get reads position at 0 (sym read))
 
-  -- and one of its own behind its beginning
-  pub placed-own : (wired : Wired (outlined plan.outline) plan.cert.blocks) (block base position own begins : ℕ) (op : Op) → slice_get plan.cert.blocks block ≡ Some op
-      → None ≡ slice_get (reads (outlined plan.outline) (all_banks (outlined plan.outline) plan.templates (take block plan.cert.blocks)) op) position
-      → (reads_length (plan.outline.order + 1) op ≤ position)
-      × (own ≡ position - reads_length (plan.outline.order + 1) op → begins ≡ base
-      → placement (reads (outlined plan.outline) (all_banks (outlined plan.outline) plan.templates (take block plan.cert.blocks)) op) base position ≡ begins + own)
-  placed-own wired block base position own begins op there none =
+  -- a position behind those that a block reads is one of its own, behind its beginning
+  pub placed-past : (wired : Wired (outlined plan.outline) plan.cert.blocks) (block base position own begins : ℕ) (op : Op) → slice_get plan.cert.blocks block ≡ Some op
+      → reads_length (plan.outline.order + 1) op ≤ position → own ≡ position - reads_length (plan.outline.order + 1) op → begins ≡ base
+      → placement (reads (outlined plan.outline) (all_banks (outlined plan.outline) plan.templates (take block plan.cert.blocks)) op) base position ≡ begins + own
+  placed-past wired block base position own begins op there late is begin =
       let at : List ℕ = reads (outlined plan.outline) (all_banks (outlined plan.outline) plan.templates (take block plan.cert.blocks)) op in
       let long : length at ≡ reads_length (plan.outline.order + 1) op =
       reads-long (outlined plan.outline) plan.templates.product plan.templates.refresh plan.cert.blocks plan-given wired block op there in
-      let past : length at ≤ position = slice_get_none-past at position (sym none) in (
-        omega (arith, long, past),
-        λ is begin. placement-own at base position past ∙ omega (arith, is, begin, long),
-      )
+      placement-own at base position (omega (arith, long, late)) ∙ omega (arith, is, begin, long)
+
+  -- a position that a block reads is there
+  pub placed-there : (wired : Wired (outlined plan.outline) plan.cert.blocks) (block position : ℕ) (op : Op) → slice_get plan.cert.blocks block ≡ Some op
+      → None ≡ slice_get (reads (outlined plan.outline) (all_banks (outlined plan.outline) plan.templates (take block plan.cert.blocks)) op) position
+      → reads_length (plan.outline.order + 1) op ≤ position
+  placed-there wired block position op there none =
+      let at : List ℕ = reads (outlined plan.outline) (all_banks (outlined plan.outline) plan.templates (take block plan.cert.blocks)) op in
+      let long : length at ≡ reads_length (plan.outline.order + 1) op =
+      reads-long (outlined plan.outline) plan.templates.product plan.templates.refresh plan.cert.blocks plan-given wired block op there in
+      omega (arith, long, slice_get_none-past at position (sym none))
 
   -- the banks of a block's operands, one after the other
   plan-front : (wired : Wired (outlined plan.outline) plan.cert.blocks) (block : ℕ) (op : Op) → slice_get plan.cert.blocks block ≡ Some op

@@ -11,16 +11,17 @@ use Rattle.mk_rules.specs.Uses.{shared_numbers}
 use Rattle.mk_rules.specs.Reaches.{Reaches, links}
 use Rattle.mk_rules.specs.Rows.{HasPairAt}
 use Rattle.mk_rules.specs.Faults.{FirstDoubled}
+use Rattle.mk_check.specs.declared.doubled.TheConstants.{BATCH}
 use Rattle.mk_check.specs.declared.doubled.Batch.{Batch}
 use Rattle.mk_check.specs.declared.refusal.CheckRefusal.{CheckRefusal}
 use Rattle.mk_check.specs.declared.refusal.CheckRefusal.TheVariants.{Operand, Tile, Output, Doubled, Memory}
 
--- the batch begins with this block, and has at least that one; it has at most 32 products
+-- the batch begins with this block, and has at least that one; it has at most BATCH products
 pub record IsBatch (blocks : List Op) (from : ℕ) (batch : Batch) : Type 0 where
   pub starts : batch.from ≡ from
   pub within : batch.end ≤ length blocks
   pub some : from < batch.end
-  pub few : batch.products ≤ 32
+  pub few : batch.products ≤ BATCH
   pub count : products_before blocks batch.end ≡ products_before blocks from + batch.products
 
 -- block b is product number r of the batch

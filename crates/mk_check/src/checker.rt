@@ -153,7 +153,9 @@ impl Checker {
         self.outs += 1;
     }
 
-    /// Takes the positions of the shares of the next output. It takes no memory.
+    /// Takes the positions in the trace of the shares of the next output, that of share 0 first, as many as the order
+    /// says and one more: `order` + 1. Outputs come behind all instructions: an instruction that comes later counts with
+    /// the others. It takes no memory.
     pub fn out(&mut self, at: &PositionList)
         requires count { length at.now ≡ self.old.outline.order + 1 }
         requires few { self.old.outs < MOST_INPUTS }

@@ -10,6 +10,7 @@ ghost use Rattle.mk_rules.specs.Uses.{shared_numbers as numbers_by_place};
 ghost use Rattle.mk_rules.specs.Wired.{Wired, IsSharedThere};
 ghost use Rattle.mk_rules.specs.Reaches.{Undoubled, links};
 ghost use Rattle.mk_rules.specs.Faults.{FirstDoubled};
+ghost use Rattle.mk_check.specs.declared.doubled.TheConstants.{BATCH};
 ghost use Rattle.mk_check.specs.Outlines.{outlined};
 ghost use Rattle.mk_check.specs.Passing.{IsBatch, IsNumbered, HasBoth, AreMarks, IsBrought, IsPassedOn, IsDoubling};
 
@@ -77,7 +78,7 @@ fn pass_on(outline: &Outline, marks: &mut [u64], block: usize, op: Op, product: 
     requires second { IfSome (slice_get (numbers_by_place (outlined outline.now) op) 1)
         (λ v. v < length marks.old) }
     requires there { outline.now.secrets + outline.now.publics + block < length marks.old }
-    requires few { IfSome product (λ r. r < 32) }
+    requires few { IfSome product (λ r. r < BATCH) }
     ensures count { length marks.new ≡ length marks.old }
     ensures marks { IsPassedOn (outlined outline.now) op
         (slice_index marks.old (outline.now.secrets + outline.now.publics + block)) product marks.old marks.new }

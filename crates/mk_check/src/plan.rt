@@ -162,6 +162,25 @@ impl Plan {
         }
     }
 
+    /// Where a position of a block's template stands: a position of its own behind those of the blocks before, and one of
+    /// an operand where that is.
+    fn placed(&self, block: usize, op: &Op, position: u32) -> u64
+        requires plan { IsPlan self.now }
+        requires wired { Wired (outlined self.now.outline) self.now.cert.blocks }
+        requires op { slice_get self.now.cert.blocks block ≡ Some op.now }
+        ensures { result ≡ placement (rule.reads (outlined self.now.outline) (all_banks (outlined self.now.outline) self.now.templates (take block self.now.cert.blocks)) op.now)
+            (first_position (outlined self.now.outline) + laid_len (outlined self.now.outline) self.now.templates self.now.cert.blocks block) position }
+    {
+        let reads = operands(op, self.outline.shares());
+        if position >= reads {
+            return self.base(block) + u64::from(position - reads);
+        }
+        match self.read(block, op, position) {
+            Some(read) => read,
+            None => unreachable!(),
+        }
+    }
+
     /// Whether a position of a block's template stands there.
     fn is_placed(&self, block: usize, op: &Op, found: u32, position: u32) -> bool
         requires plan { IsPlan self.now }
@@ -170,13 +189,7 @@ impl Plan {
         ensures { IsTrue result ↔ (found ≡ placement (rule.reads (outlined self.now.outline) (all_banks (outlined self.now.outline) self.now.templates (take block self.now.cert.blocks)) op.now)
             (first_position (outlined self.now.outline) + laid_len (outlined self.now.outline) self.now.templates self.now.cert.blocks block) position) }
     {
-        let wanted = match self.read(block, op, position) {
-            Some(read) => read,
-            None => {
-                let own = position - operands(op, self.outline.shares());
-                self.base(block) + u64::from(own)
-            }
-        };
+        let wanted = self.placed(block, op, position);
         u64::from(found) == wanted
     }
 

@@ -28,7 +28,8 @@ pub(crate) struct Templates {
 }
 
 impl Model for Templates {
-    ghost use Rattle.std.specs.Prelude.{◌≤◌};
+    ghost use Rattle.std.specs.Prelude.{◌≤◌, ◌+◌};
+    ghost use Rattle.mk_base.specs.declared.TheConstants.{TOP_ORDER};
     ghost use Rattle.mk_check.specs.Gadgets.{Gadgets};
 
     ghost Value = { Gadgets };
@@ -39,7 +40,7 @@ impl Model for Templates {
       refresh = record { instrs = t.refresh.instrs; outs = t.refresh.outs };
     } };
 
-    ghost invariant = { λ t. (1 ≤ t.shares) × (t.shares ≤ 16) };
+    ghost invariant = { λ t. (1 ≤ t.shares) × (t.shares ≤ TOP_ORDER + 1) };
 }
 
 impl Templates {
@@ -83,7 +84,7 @@ impl Templates {
     fn rows(&self, op: &Op) -> u32
         ensures rows { (kind op.now ≢ Strong) → (result ≡ length (template_of self.now op.now).instrs)
             × (result ≡ length (template_of self.now op.now).outs) }
-        ensures small { result ≤ 16 }
+        ensures small { result ≤ TOP_ORDER + 1 }
     {
         if op.is_public() { 1 } else { self.shares }
     }
@@ -100,7 +101,7 @@ fn instrs_len(code: &Code) -> u32
 
 /// How many positions the operands of an operator have.
 pub(crate) fn operands(op: &Op, shares: u32) -> u32
-    requires { shares ≤ 16 }
+    requires { shares ≤ TOP_ORDER + 1 }
     ensures { result ≡ shares * length (shared_operands op.now) + length (public_operands op.now) }
 {
     match op {
@@ -116,7 +117,7 @@ pub(crate) fn operands(op: &Op, shares: u32) -> u32
 /// Instruction `k` of the template of a public or linear operator.
 fn row(op: &Op, shares: u32, k: u32) -> Instr
     requires kind { kind op.now ≢ Strong }
-    requires shares { shares ≤ 16 }
+    requires shares { shares ≤ TOP_ORDER + 1 }
     requires there { k < length (built_in shares op.now).instrs }
     ensures { slice_get (built_in shares op.now).instrs k ≡ Some result }
 {

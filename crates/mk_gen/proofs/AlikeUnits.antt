@@ -118,7 +118,7 @@ module _ (at : Place) (turns : List Turn) where
       ∙ links_alike links (behind e (linked at turns l)) all.1
 
   -- an index
-  index_alike : (i : Index) → IndexAlike i
+  pub index_alike : (i : Index) → IndexAlike i
   index_alike =
       index_induction IndexAlike LinkAlike
       (λ n. ap (evaluated nowhere turns) (placeless_index-Num n) ∙ evaluated-Num nowhere turns n ∙ ap moved (sym (evaluated-Num at turns n)))

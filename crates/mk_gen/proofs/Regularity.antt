@@ -133,20 +133,25 @@ size_16 = (lit≤ tt, lit≤ tt)
 
 -- The parts of the body, with some brackets left.
 module _ (brackets : ℕ) where
+  -- the loop's variable is a regular index
   turn_regular : IsRegularIndex turn brackets
   turn_regular = regular_var brackets (codes "i") nowhere is_name_i
 
+  -- and the sum of it alone
   turn_index_regular : IsRegularIndex turn_index brackets
   turn_index_regular = regular_chain brackets turn (link.Mod 16 ∷ []) turn_regular (lit≤ tt) (regular_mod brackets 16 size_16, tt)
 
+  -- and its double
   scaled_index_regular : IsRegularIndex scaled_index brackets
   scaled_index_regular =
       regular_chain brackets (index.Num 5) (link.Times turn ∷ link.Mod 16 ∷ []) (regular_num brackets 5 (lit≤ tt)) (lit≤ tt)
       (regular_times brackets turn turn_regular, (regular_mod brackets 16 size_16, tt))
 
+  -- and the number behind it
   next_turn_regular : IsRegularIndex next_turn brackets
   next_turn_regular = regular_sum brackets turn (index.Num 1) turn_regular (regular_num brackets 1 (lit≤ tt))
 
+  -- and the variable a
   a_regular : IsRegularRef (scalar (codes "a")) brackets
   a_regular = (is_name_a, tt)
 

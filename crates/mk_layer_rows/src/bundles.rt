@@ -254,9 +254,17 @@ fn events_are_the_same_in_any_pieces(rt: HostRuntime) -> Result<(), Fail> {
     Ok(())
 }
 
-/// Why a text is not collected of a source that fails at these calls.
-fn refused(alloc: Global, text: &str, fail: &[u32], limit: u32) -> Option<StreamRefusal> {
-    let mut source = match MemSource::new(alloc, text.as_bytes(), 4096, fail) {
+/// Why a text is not collected of a source that gives so many bytes at once and fails at these calls.
+fn refused(
+    alloc: Global,
+    text: &str,
+    most: usize,
+    fail: &[u32],
+    limit: u32,
+) -> Option<StreamRefusal>
+    requires { 1 ≤ most }
+{
+    let mut source = match MemSource::new(alloc, text.as_bytes(), most, fail) {
         Ok(source) => source,
         Err(_) => return Some(StreamRefusal::Memory),
     };
@@ -270,7 +278,7 @@ fn refused(alloc: Global, text: &str, fail: &[u32], limit: u32) -> Option<Stream
 fn sources_are_refused(rt: HostRuntime) {
     // A number of 200 digits, a line that lacks its end, and bytes behind the last line.
     let long =
-        "mask 1\nfield gf2\norder 1\nsecrets 11111111111111111111111111111111111111111111111111111111111111111111111111111111111111111111111111111111111111111111111111111111111111111111111111111111111111111111111111111111\n";
+        "mask 1\nfield gf2\norder 1\nsecrets 11111111111111111111111111111111111111111111111111111111111111111111111111111111111111111111111111111111111111111111111111111111111111111111111111111111111111111111111111111111111111111111111111111111\n";
     let inside = "mask 1\nfield gf2\norder 1\nsecrets 0\npublics 0\ncode\nen";
     let behind = "mask 1\nfield gf2\norder 1\nsecrets 0\npublics 0\ncode\nend\nend\n";
     for (text, fail, limit, wanted) in [
@@ -289,7 +297,22 @@ fn sources_are_refused(rt: HostRuntime) {
         (SUM, 0, 104, Some(StreamRefusal::TooLong)),
         (SUM, 0, 105, None),
     ] {
-        assert_eq!(rt; refused(rt.alloc(), text, &[fail], limit), wanted);
+        assert_eq!(rt; refused(rt.alloc(), text, 4096, &[fail], limit), wanted);
+    }
+}
+
+#[test]
+fn wrong_texts_are_read_to_their_end(rt: HostRuntime) {
+    // The first line is wrong, and there are 25 bytes, of which eight come at once.
+    let text = "mask 2\nfield gf2\norder 1\n";
+    for (fail, limit, wanted) in [
+        (0, 25, StreamRefusal::Form { line: 1 }),
+        (3, 25, StreamRefusal::Fault),
+        (5, 25, StreamRefusal::Fault),
+        (0, 24, StreamRefusal::TooLong),
+        (5, 24, StreamRefusal::TooLong),
+    ] {
+        assert_eq!(rt; refused(rt.alloc(), text, 8, &[fail], limit), Some(wanted));
     }
 }
 

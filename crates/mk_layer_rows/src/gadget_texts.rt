@@ -6,7 +6,7 @@ use mk_base::Memory;
 use mk_code::Instr;
 use mk_field::FieldId;
 use mk_lib::{LibRefusal, MOST_GADGET_BYTES, read_gadget, texts_differ};
-use mk_pad::{Gadget, GadgetKind};
+use mk_pad::{Gadget, GadgetKind, right_value};
 use std::alloc::Global;
 use std::test::*;
 
@@ -133,5 +133,15 @@ fn what_is_read_is_the_gadget(rt: HostRuntime) -> Result<(), Fail> {
     ];
     assert!(rt; gadget.instrs().as_slice() == instrs.as_slice());
     assert!(rt; gadget.outs().as_slice() == [5, 3].as_slice());
+    Ok(())
+}
+
+#[test]
+fn the_value_of_what_is_read_is_decided(rt: HostRuntime) -> Result<(), Fail> {
+    let alloc = rt.alloc();
+    let text =
+        "gadget refresh\nfield gf2\norder 2\nrnd\nadd 0 3\nadd 1 3\nrnd\nadd 4 6\nadd 2 6\nout 7 5 8\nend\n";
+    let gadget = read(alloc, text).ok().ok_or("the text is a gadget's")?;
+    assert_eq!(rt; right_value(alloc, &gadget), Ok(true));
     Ok(())
 }

@@ -290,6 +290,22 @@ fn refreshes(rt: HostRuntime) {
     );
 }
 
+/// A value is decided however many sets of positions there are.
+#[test]
+fn random_elements_are_no_refresh(rt: HostRuntime) -> Result<(), Memory> {
+    let alloc = rt.alloc();
+    let head = Head {
+        order: 5,
+        ..BIT_REFRESH
+    };
+    let instrs = randoms(alloc, 50)?;
+    assert_eq!(rt;
+        answer(&rt, alloc, head, instrs.as_slice(), &[6, 7, 8, 9, 10, 11]),
+        Ok(false)
+    );
+    Ok(())
+}
+
 /// So many random elements.
 fn randoms(alloc: Global, count: usize) -> Result<Vec<Instr>, Memory> {
     let mut instrs = Vec::new(alloc);

@@ -14,18 +14,18 @@ use Rattle.mk_pad.specs.declared.kind.GadgetKind.{GadgetKind}
 use Rattle.mk_pad.specs.declared.kind.GadgetKind.TheVariants.{Mul, Refresh}
 use Rattle.mk_pad.specs.Form.{GadgetForm, IsGadget, share_count, position_count, operands}
 use Rattle.mk_lines.specs.Words.{line, is_line}
-use Rattle.mk_lines.specs.CodeLines.{instr_line, out_line, position_word}
+use Rattle.mk_lines.specs.CodeLines.{field_line, instr_line, out_line, position_word}
 use Rattle.mk_lines.specs.Lines.{AreLines}
-use Rattle.mk_lines.specs.Parsing.{◌>>=◌, after, positions_of}
+use Rattle.mk_lines.specs.Parsing.{◌>>=◌, after, field_of, positions_of}
 use Rattle.mk_lines.proofs.Steps.{same_some, after_again}
 use Rattle.mk_lines.proofs.Numbers.{number_of_again}
 use Rattle.mk_lines.proofs.Spelled.{positions_again}
 use Rattle.mk_lines.proofs.Variants.{instr_words, InstrFits, instr_line-words, instr_again}
 use Rattle.mk_lines.proofs.Feeds.{is_line-decimal, is_line-positions, is_line-instr}
-use Rattle.mk_lib.specs.Text.{kind_line, field_line, order_line, text}
+use Rattle.mk_lib.specs.Text.{kind_line, order_line, text}
 use Rattle.mk_lib.specs.declared.draft.Stage.TheVariants.{Kind, Field, Order, Instrs, End, Ended}
-use Rattle.mk_lib.specs.Reading.{State, start, IsGood, kind_of, field_of, order_of, instr_next, lower_next, next_at}
-use Rattle.mk_lib.proofs.ByLines.{All-append}
+use Rattle.mk_lib.specs.Reading.{State, start, IsGood, kind_of, order_of, instr_next, lower_next, next_at}
+use Rattle.mk_lines.proofs.ByLines.{All-append}
 use Rattle.mk_lib.proofs.Form.{at, AllFit-front, AllFit-at}
 
 -- ---- runs over lines

@@ -1,4 +1,3 @@
-pub mod ByLines
 pub mod Form
 pub mod Sound
 pub mod Complete

@@ -11,7 +11,7 @@ use Rattle.mk_lib.specs.Texts.{IsTextOf, IsGadgetText, TextsDiffer}
 use Rattle.mk_lib.specs.declared.draft.Stage.{Stage}
 use Rattle.mk_lib.specs.declared.draft.Stage.TheVariants.{Ended}
 use Rattle.mk_lib.specs.Reading.{State, start, IsGood}
-use Rattle.mk_lib.proofs.ByLines.{All-append, All-back, not_nil, prefix_lines, last_line, few_lines, goes_well-less}
+use Rattle.mk_lines.proofs.ByLines.{All-append, All-back, not_nil, prefix_lines, last_line, few_lines, goes_well-less}
 use Rattle.mk_lib.proofs.Form.{at, ended_form}
 use Rattle.mk_lib.proofs.Sound.{text_at, goes, completes}
 use Rattle.mk_lib.proofs.Complete.{step, Runs, Runs-append, Runs-rest, begun_good, text_leads}

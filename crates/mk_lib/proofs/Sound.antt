@@ -4,23 +4,24 @@ use Rattle.std.specs.Prelude.{cond, codes, flat_map, bytes_eq}
 use Rattle.std.proofs.lemmas.List.{append-nil}
 use Rattle.std.proofs.lemmas.Grind.{flat_map-append}
 use Rattle.mk_field.specs.declared.field.FieldId.{FieldId}
-use Rattle.mk_field.specs.declared.field.FieldId.TheVariants.{Gf2, Gf256}
 use Rattle.mk_code.specs.declared.instr.Instr.{Instr}
 use Rattle.mk_pad.specs.declared.kind.GadgetKind.{GadgetKind}
 use Rattle.mk_pad.specs.declared.kind.GadgetKind.TheVariants.{Mul, Refresh}
 use Rattle.mk_pad.specs.Form.{GadgetForm, position_count}
 use Rattle.mk_lines.specs.Words.{line}
-use Rattle.mk_lines.specs.CodeLines.{instr_line, out_line, position_word}
-use Rattle.mk_lines.specs.Parsing.{after, number_of, instr_of, positions_of}
+use Rattle.mk_lines.specs.CodeLines.{field_line, instr_line, out_line, position_word}
+use Rattle.mk_lines.specs.Parsing.{after, number_of, instr_of, field_of, positions_of}
 use Rattle.mk_lines.proofs.Steps.{bind_some, same_some, chosen, passed, after_found, behind_found, is_word}
+use Rattle.mk_lines.proofs.ByLines.{Front, front_more, front_same}
+use Rattle.mk_lines.proofs.Fields.{field_found}
 use Rattle.mk_lines.proofs.Numbers.{number_of_found}
 use Rattle.mk_lines.proofs.Spelled.{positions_found}
 use Rattle.mk_lines.proofs.Variants.{instr_line-words, instr_found}
-use Rattle.mk_lib.specs.Text.{kind_line, field_line, order_line, text}
+use Rattle.mk_lib.specs.Text.{kind_line, order_line, text}
 use Rattle.mk_lib.specs.Texts.{IsGadgetText}
 use Rattle.mk_lib.specs.declared.draft.Stage.{Stage}
 use Rattle.mk_lib.specs.declared.draft.Stage.TheVariants.{Kind, Field, Order, Instrs, End, Ended}
-use Rattle.mk_lib.specs.Reading.{State, IsGood, kind_of, field_of, order_of, out_next, instr_next, with_instr, next_at}
+use Rattle.mk_lib.specs.Reading.{State, IsGood, kind_of, order_of, out_next, instr_next, with_instr, next_at}
 use Rattle.mk_lib.proofs.Form.{at, rnds, filled, filled_form, ended_form}
 
 -- the lines before the instructions
@@ -43,15 +44,6 @@ kind_found l kind e = elim (chosen (bytes_eq l (codes "gadget mul")) (Some Mul) 
   | inl h ↦ ap kind_line (sym (same_some Mul kind h.1)) ∙ ap line (sym (is_word l (codes "gadget mul") h.0))
   | inr h ↦ (let g = passed (bytes_eq l (codes "gadget refresh")) (Some Refresh) kind h.1 in
       ap kind_line (sym (same_some Refresh kind g.1)) ∙ ap line (sym (is_word l (codes "gadget refresh") g.0)))
-]
-
--- a line that names a field is the line of that field
-field_found : (l : List ℕ) (field : FieldId) → field_of l ≡ Some field → field_line field ≡ line l
-unfolding field_of
-field_found l field e = elim (chosen (bytes_eq l (codes "field gf2")) (Some Gf2) (cond (bytes_eq l (codes "field gf256")) (Some Gf256) None) (Some field) e) [
-  | inl h ↦ ap field_line (sym (same_some Gf2 field h.1)) ∙ ap line (sym (is_word l (codes "field gf2") h.0))
-  | inr h ↦ (let g = passed (bytes_eq l (codes "field gf256")) (Some Gf256) field h.1 in
-      ap field_line (sym (same_some Gf256 field g.1)) ∙ ap line (sym (is_word l (codes "field gf256") g.0)))
 ]
 
 -- a line with a number is the line of that order
@@ -103,18 +95,6 @@ goes End g l next good e =
     let h = passed (bytes_eq l (codes "end")) (Some (at Ended g)) next e in
     subst (λ (st : State). text_at st.stage st.gadget ≡ text_at End g ++ line l) (same_some (at Ended g) next h.1) (ap (λ (w : List ℕ). text_at End g ++ line w) (sym (is_word l (codes "end") h.0)))
 goes Ended g l next good e = absurd cc
-
--- a list that begins with another
-abbrev pub Front : List ℕ → List ℕ → Type 0
-Front xs ys = (rest : List ℕ) × (ys ≡ xs ++ rest)
-
--- what a list begins with, it begins with too where more stands behind it
-front_more : (xs ys more : List ℕ) → Front xs ys → Front xs (ys ++ more)
-front_more xs ys more h = (h.0 ++ more, ap (λ (r : List ℕ). r ++ more) h.1 ∙ append_assoc xs h.0 more)
-
--- a list begins with itself
-front_same : (xs : List ℕ) → Front xs xs
-front_same xs = ([], sym (append-nil xs))
 
 -- from a front of the lines before the instructions on
 from_head : (xs : List ℕ) (g : GadgetForm) → Front xs (head_text g) → Front xs (text g)

@@ -11,9 +11,9 @@ use Rattle.mk_pad.specs.Form.{GadgetForm, AreOuts, share_count, position_count}
 use Rattle.mk_lib.specs.declared.draft.Draft.{Draft}
 use Rattle.mk_lib.specs.declared.draft.Stage.{Stage}
 use Rattle.mk_lib.specs.declared.draft.Stage.TheVariants.{Kind, Field, Order, Instrs, End, Ended}
-use Rattle.mk_lib.specs.declared.draft.LineRefusal.{LineRefusal}
-use Rattle.mk_lib.specs.declared.draft.LineRefusal.TheVariants as refusals
-use Rattle.mk_lines.specs.Parsing.{◌>>=◌, after, number_of, instr_of, behind, positions_of}
+use Rattle.mk_lines.specs.declared.refusal.LineRefusal.{LineRefusal}
+use Rattle.mk_lines.specs.declared.refusal.LineRefusal.TheVariants as refusals
+use Rattle.mk_lines.specs.Parsing.{◌>>=◌, after, number_of, instr_of, behind, field_of, positions_of}
 
 -- what was read so far: where the next line stands, and the gadget as far as it came
 pub record State : Type 0 where
@@ -60,23 +60,11 @@ Reads (Ok done) given new = (given ≡ Some new) × IsGood new
 Reads (Err refusals.Form) given new = (next : State) → given ≡ Some next → IsGood next → ⊥
 Reads (Err refusals.Memory) given new = Unit {0}
 
--- what a function that reads positions returned is what reading gives, unless memory ran out
-abbrev pub Gives : Result (List ℕ) LineRefusal → Option (List ℕ) → Type 0
-Gives (Ok positions) read = read ≡ Some positions
-Gives (Err refusals.Form) read = read ≡ None
-Gives (Err refusals.Memory) read = Unit {0}
-
 -- what the first line says that the gadget stands for
 unfoldable pub kind_of : List ℕ → Option GadgetKind
 kind_of line =
     if bytes_eq line (codes "gadget mul") then Some Mul else (
     if bytes_eq line (codes "gadget refresh") then Some Refresh else None)
-
--- the field that its line names
-unfoldable pub field_of : List ℕ → Option FieldId
-field_of line =
-    if bytes_eq line (codes "field gf2") then Some Gf2 else (
-    if bytes_eq line (codes "field gf256") then Some Gf256 else None)
 
 -- the number in the line of the order
 unfoldable pub order_of : List ℕ → Option ℕ

@@ -1,22 +1,15 @@
 -- The text of a gadget.
 use Rattle.std.specs.Prelude.{ℕ, List, ◌++◌, flat_map, codes, decimal}
-use Rattle.mk_field.specs.declared.field.FieldId.{FieldId}
-use Rattle.mk_field.specs.declared.field.FieldId.TheVariants.{Gf2, Gf256}
 use Rattle.mk_pad.specs.declared.kind.GadgetKind.{GadgetKind}
 use Rattle.mk_pad.specs.declared.kind.GadgetKind.TheVariants.{Mul, Refresh}
 use Rattle.mk_pad.specs.Form.{GadgetForm}
 use Rattle.mk_lines.specs.Words.{line}
-use Rattle.mk_lines.specs.CodeLines.{instr_line, out_line}
+use Rattle.mk_lines.specs.CodeLines.{field_line, instr_line, out_line}
 
 -- the line of what a gadget stands for
 abbrev pub kind_line : GadgetKind → List ℕ
 kind_line Mul = line (codes "gadget mul")
 kind_line Refresh = line (codes "gadget refresh")
-
--- the line of a field
-abbrev pub field_line : FieldId → List ℕ
-field_line Gf2 = line (codes "field gf2")
-field_line Gf256 = line (codes "field gf256")
 
 -- the line of an order
 abbrev pub order_line : ℕ → List ℕ

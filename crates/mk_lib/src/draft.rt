@@ -2,14 +2,13 @@
 
 ghost use Rattle.std.specs.Prelude.{◌≡◌, IsTrue, ◌↔◌};
 ghost use Rattle.mk_pad.specs.Form.{IsGadget, share_count, position_count};
-ghost use Rattle.mk_lines.specs.Parsing.{positions_of};
 ghost use Rattle.mk_lib.specs.declared.draft.Stage.TheVariants.{Kind, Field, Order, Instrs, End, Ended};
-ghost use Rattle.mk_lib.specs.Reading.{State, state_of, start, IsGood, Reads, Gives, kind_of, field_of, order_of, kind_next, field_next, order_next, instr_next, out_next, lower_next, end_next, next_at, with_instr};
+ghost use Rattle.mk_lib.specs.Reading.{State, state_of, start, IsGood, Reads, kind_of, order_of, kind_next, field_next, order_next, instr_next, out_next, lower_next, end_next, next_at, with_instr};
 
-use mk_base::{Items, Memory};
+use mk_base::Items;
 use mk_code::{Instr, InstrList, PositionList};
 use mk_field::FieldId;
-use mk_lines::{after, instr_of, number_at, number_of};
+use mk_lines::{LineRefusal, after, field_of, instr_of, number_of, positions_of};
 use mk_pad::{Gadget, GadgetKind, MOST_GADGET_INSTRS, TOP_GADGET_ORDER, are_outs, fits};
 use std::alloc::Global;
 
@@ -41,26 +40,6 @@ pub(crate) struct Draft {
     pub outs: PositionList,
 }
 
-/// Why a line doesn't go on with a draft.
-#[derive(Clone, Copy, Debug, PartialEq, Eq)]
-pub(crate) enum LineRefusal {
-    /// No gadget text has this line here.
-    Form,
-    /// Memory was wanted and not found.
-    Memory,
-}
-
-impl From<Memory> for LineRefusal {
-    ghost use Rattle.std.specs.Prelude.{◌≡◌};
-    ghost use Rattle.mk_lib.specs.declared.draft.LineRefusal.TheVariants.{Memory};
-
-    ghost from_gives = { λ _ e. e ≡ Memory };
-
-    fn from(_memory: Memory) -> LineRefusal {
-        LineRefusal::Memory
-    }
-}
-
 /// Before the first line.
 pub(crate) fn empty_draft(alloc: Global) -> Draft
     ensures { state_of result ≡ start }
@@ -85,20 +64,6 @@ fn kind_of(line: &[u8]) -> Option<GadgetKind>
     }
     if line == b"gadget refresh".as_slice() {
         return Some(GadgetKind::Refresh);
-    }
-    None
-}
-
-/// The field of its line.
-#[tactic(auto, unfolding(crate::specs::Reading::field_of))]
-fn field_of(line: &[u8]) -> Option<FieldId>
-    ensures { result ≡ field_of line.now }
-{
-    if line == b"field gf2".as_slice() {
-        return Some(FieldId::Gf2);
-    }
-    if line == b"field gf256".as_slice() {
-        return Some(FieldId::Gf256);
     }
     None
 }
@@ -196,36 +161,6 @@ fn read_instr(draft: &mut Draft, line: &[u8]) -> Result<(), LineRefusal>
     }
     draft.instrs.push(instr)?;
     Ok(())
-}
-
-/// So many positions below `len`, a space before each and nothing behind them.
-fn positions_of(
-    alloc: Global,
-    count: u32,
-    len: u32,
-    words: &[u8],
-) -> Result<PositionList, LineRefusal>
-    ensures { Gives result (positions_of count len words.now) }
-{
-    let mut positions = Items::new(alloc);
-    let mut rest = words;
-    for _ in 0..count {
-        let Some(word) = after(b" ", rest) else {
-            return Err(LineRefusal::Form);
-        };
-        let Some((position, behind)) = number_at(word) else {
-            return Err(LineRefusal::Form);
-        };
-        if position >= len {
-            return Err(LineRefusal::Form);
-        }
-        positions.push(position)?;
-        rest = behind;
-    }
-    if !rest.is_empty() {
-        return Err(LineRefusal::Form);
-    }
-    Ok(positions)
 }
 
 /// The line of the outs, behind its first word.

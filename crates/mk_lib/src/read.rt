@@ -4,9 +4,9 @@ ghost use Rattle.mk_lib.specs.declared.refusal.LibRefusal.TheVariants as refusal
 ghost use Rattle.mk_lines.specs.Lines.{NamesFirst};
 ghost use Rattle.mk_lib.specs.Texts.{IsTextOf, IsGadgetText};
 
-use crate::draft::{LineRefusal, empty_draft, gadget_of, is_ended, read_line};
+use crate::draft::{empty_draft, gadget_of, is_ended, read_line};
 use crate::refusal::LibRefusal;
-use mk_lines::cut;
+use mk_lines::{LineRefusal, cut};
 use mk_pad::Gadget;
 use std::alloc::Global;
 

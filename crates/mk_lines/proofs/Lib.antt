@@ -4,3 +4,5 @@ pub mod Loops
 pub mod Spelled
 pub mod Variants
 pub mod Feeds
+pub mod ByLines
+pub mod Fields

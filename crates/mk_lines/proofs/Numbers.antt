@@ -1,5 +1,5 @@
 -- A number that is printed is read back, and what is read is printed so.
-use Rattle.std.proofs.Common.{◌≡◌, ℕ, zero, suc, ◌+◌, ◌*◌, ◌-◌, ◌^◌, ◌<◌, ◌≤◌, Bool, true, false, ◌⊎◌, List, [], ◌∷◌, ◌++◌, length, drop, get_or, Option, Some, None, nat_lt, refl, sym, ap, subst, ◌∙◌, inl, inr, arith, add-one, drop-cons, drop_of_length-le}
+use Rattle.std.proofs.Common.{◌≡◌, ℕ, zero, suc, ◌+◌, ◌*◌, ◌-◌, ◌^◌, ◌<◌, ◌≤◌, Bool, true, false, ◌⊎◌, List, [], ◌∷◌, ◌++◌, length, take, drop, get_or, Some, None, nat_lt, refl, sym, ap, subst, ◌∙◌, inl, inr, arith}
 use Rattle.std.specs.Prelude.{cond, take_while, decimal, ◌&&◌, ◌==◌, not}
 use Rattle.std.specs.Char.{is_ascii_digit}
 use Rattle.std.specs.Str.{all_ascii_digits}
@@ -9,7 +9,8 @@ use Rattle.std.proofs.lemmas.List.Sums.{take_while-cons}
 use Rattle.std.proofs.lemmas.Fmt.{digits_decimal, digits_value-decimal, decimal-digits_value, decimal_nonempty, first_decimal, decimal_digit}
 use Rattle.mk_base.specs.Digits.{valued}
 use Rattle.mk_base.proofs.Digits.{own, valued-ge}
-use Rattle.mk_lines.specs.Parsing.{◌>>=◌, whole, leads, number_by, number_at, digits_from, number_of}
+use Rattle.mk_lines.specs.Parsing.{◌>>=◌, whole, leads, number_by, number_at, narrowed, digits_from, number_of}
+use Rattle.mk_lines.proofs.Loops.{behind_first}
 use Rattle.mk_lines.proofs.Steps.{bind_some, same_some, passed, whole_found}
 
 -- what stands behind a number doesn't go on with it
@@ -85,36 +86,31 @@ number_by_again n small =
     ∙ ap (λ (m : ℕ). Some m) is
 
 -- where no digit stands, the number is the one that was made before
-pub digits_end : (n : ℕ) (bytes : List ℕ) → n < 2 ^ 32 → EndsNumber bytes → digits_from n bytes ≡ Some (n, bytes)
+pub digits_end : (n : ℕ) (bytes : List ℕ) → EndsNumber bytes → digits_from n bytes ≡ narrowed n bytes
 unfolding digits_from valued
-digits_end n [] small ends = rw (lt-ltb n (2 ^ 32) small) refl
-digits_end n (b ∷ bs) small ends = rw (take_while-cons is_ascii_digit b bs, ends) (rw (lt-ltb n (2 ^ 32) small) refl)
+digits_end n [] ends = refl
+digits_end n (b ∷ bs) ends = rw (take_while-cons is_ascii_digit b bs, ends) refl
 
 -- a digit makes a number with those before it, which those behind it go on with
 pub digits_more : (n b : ℕ) (bs : List ℕ) → is_ascii_digit b ≡ true → digits_from n (b ∷ bs) ≡ digits_from (n * 10 + (b - 48)) bs
 unfolding digits_from valued
 digits_more n b bs digit = rw (take_while-cons is_ascii_digit b bs, digit) refl
 
--- the same at a place in bytes
-pub digits_more_at : (n i : ℕ) (bytes : List ℕ) (total : Option (ℕ × List ℕ)) → i < length bytes → is_ascii_digit (get_or bytes i 0) ≡ true
-    → digits_from n (drop i bytes) ≡ total → digits_from (n * 10 + (get_or bytes i 0 - 48)) (drop (i + 1) bytes) ≡ total
-digits_more_at n i bytes total lt digit so_far =
-    let front : drop i bytes ≡ get_or bytes i 0 ∷ drop (i + 1) bytes = rw add-one (drop-cons bytes i 0 lt) in
-    sym (ap (digits_from n) front ∙ digits_more n (get_or bytes i 0) (drop (i + 1) bytes) digit) ∙ so_far
+-- the same of bytes with a digit in front
+pub digits_more_first : (n : ℕ) (bytes : List ℕ) → 0 < length bytes → is_ascii_digit (get_or bytes 0 0) ≡ true
+    → digits_from n bytes ≡ digits_from (n * 10 + (get_or bytes 0 0 - 48)) (take (length bytes - 1) (drop 1 bytes))
+digits_more_first n [] some digit = absurd (omega (arith, some))
+digits_more_first n (b ∷ bs) some digit = digits_more n b bs digit ∙ ap (digits_from (n * 10 + (b - 48))) (sym (behind_first b bs))
 
--- where no digit stands at a place in bytes, the number is the one that was made before
-pub digits_end_at : (n i : ℕ) (bytes : List ℕ) (total : Option (ℕ × List ℕ)) → n < 2 ^ 32 → i < length bytes → is_ascii_digit (get_or bytes i 0) ≡ false
-    → digits_from n (drop i bytes) ≡ total → total ≡ Some (n, drop i bytes)
-digits_end_at n i bytes total small lt isnt so_far =
-    let front : drop i bytes ≡ get_or bytes i 0 ∷ drop (i + 1) bytes = rw add-one (drop-cons bytes i 0 lt) in
-    let ends : EndsNumber (drop i bytes) = subst EndsNumber (sym front) isnt in
-    sym so_far ∙ digits_end n (drop i bytes) small ends
+-- where no digit stands in front, the number is the one that was made before
+pub digits_end_first : (n : ℕ) (bytes : List ℕ) → 0 < length bytes → is_ascii_digit (get_or bytes 0 0) ≡ false → digits_from n bytes ≡ narrowed n bytes
+digits_end_first n [] some isnt = absurd (omega (arith, some))
+digits_end_first n (b ∷ bs) some isnt = digits_end n (b ∷ bs) isnt
 
 -- at the end of bytes, the number is the one that was made before
-pub digits_done : (n i : ℕ) (bytes : List ℕ) (total : Option (ℕ × List ℕ)) → n < 2 ^ 32 → length bytes ≤ i → digits_from n (drop i bytes) ≡ total → total ≡ Some (n, drop i bytes)
-digits_done n i bytes total small done so_far =
-    let ends : EndsNumber (drop i bytes) = subst EndsNumber (sym (drop_of_length-le bytes done)) tt in
-    sym so_far ∙ digits_end n (drop i bytes) small ends
+pub digits_end_none : (n : ℕ) (bytes : List ℕ) → length bytes < 1 → digits_from n bytes ≡ narrowed n bytes
+digits_end_none n [] none = digits_end n [] tt
+digits_end_none n (b ∷ bs) none = absurd (omega (arith, none))
 
 -- digits behind a number of more than 32 bits make none
 pub digits_large : (n : ℕ) (bytes : List ℕ) → 2 ^ 32 ≤ n → digits_from n bytes ≡ None
@@ -161,6 +157,25 @@ number_at_digits bytes led =
     by : (small : Bool) (n : ℕ) (rest : List ℕ) → ◌>>=◌ {B = ℕ × List ℕ} (cond small (Some n) None) (λ m. Some (m, rest)) ≡ cond small (Some (n, rest)) None
     by true n rest = refl
     by false n rest = refl
+
+-- the digits lead only where one stands in front
+pub leads_digit : (bytes : List ℕ) → leads (take_while is_ascii_digit bytes) ≡ true → (0 < length bytes) × (is_ascii_digit (get_or bytes 0 0) ≡ true)
+unfolding leads
+leads_digit [] led = absurd cc
+leads_digit (b ∷ bs) led = (
+  omega arith,
+  elim (cases_Bool (is_ascii_digit b)) [
+    | inl held ↦ held
+    | inr failed ↦ (let none : leads (take_while is_ascii_digit (b ∷ bs)) ≡ false = rw (take_while-cons is_ascii_digit b bs, failed) refl in absurd (cc))
+  ],
+)
+
+-- so they are a digit and those behind it
+pub number_at_first : (bytes : List ℕ) → leads (take_while is_ascii_digit bytes) ≡ true → number_at bytes ≡ digits_from (get_or bytes 0 0 - 48) (take (length bytes - 1) (drop 1 bytes))
+number_at_first bytes led =
+    let first = leads_digit bytes led in
+    let plain : 0 * 10 + (get_or bytes 0 0 - 48) ≡ get_or bytes 0 0 - 48 = omega arith in
+    number_at_digits bytes led ∙ digits_more_first 0 bytes first.0 first.1 ∙ ap (λ (n : ℕ). digits_from n (take (length bytes - 1) (drop 1 bytes))) plain
 
 -- and where they don't lead, there is none
 pub number_at_none : (bytes : List ℕ) → leads (take_while is_ascii_digit bytes) ≡ false → number_at bytes ≡ None

@@ -1,10 +1,17 @@
--- The lines of a code: one for each additive map, one for each instruction and one for each output.
+-- The lines of a code: one for its field, one for each additive map, one for each instruction and one for each output.
 use Rattle.std.specs.Prelude.{ℕ, zero, suc, List, [], ◌++◌, take, drop, flat_map, codes, decimal}
+use Rattle.mk_field.specs.declared.field.FieldId.{FieldId}
+use Rattle.mk_field.specs.declared.field.FieldId.TheVariants.{Gf2, Gf256}
 use Rattle.mk_field.specs.declared.map.AddMap.{AddMap}
 use Rattle.mk_code.specs.declared.instr.Instr.{Instr}
 use Rattle.mk_code.specs.declared.instr.Instr.TheVariants.{Rnd, Const, Copy, Add, Mul, Sq, Map}
 use Rattle.mk_lines.specs.Words.{line}
 use Rattle.mk_field.specs.Digits.{hex_byte}
+
+-- the line of a field
+abbrev pub field_line : FieldId → List ℕ
+field_line Gf2 = line (codes "field gf2")
+field_line Gf256 = line (codes "field gf256")
 
 -- the line of a map: the images of the eight bits, that of bit 0 first
 abbrev pub map_line : AddMap → List ℕ

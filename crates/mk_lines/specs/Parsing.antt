@@ -1,7 +1,9 @@
 -- Reading the words of a line from its front on, as lists.
-use Rattle.std.specs.Prelude.{◌≡◌, ℕ, zero, suc, ◌+◌, ◌-◌, ◌*◌, ◌^◌, ◌==◌, Bool, true, false, ◌&&◌, not, List, [], ◌∷◌, length, drop, take_while, Option, Some, None, nat_lt, codes, if◌then◌else◌}
+use Rattle.std.specs.Prelude.{◌≡◌, ℕ, zero, suc, ◌+◌, ◌*◌, ◌^◌, ◌==◌, Bool, true, false, ◌&&◌, not, List, [], ◌∷◌, length, drop, take_while, Option, Some, None, Result, Ok, Err, nat_lt, bytes_eq, codes, if◌then◌else◌}
 use Rattle.std.specs.Char.{is_ascii_digit, is_ascii_uppercase}
 use Rattle.mk_base.specs.Digits.{valued, hex_value}
+use Rattle.mk_field.specs.declared.field.FieldId.{FieldId}
+use Rattle.mk_field.specs.declared.field.FieldId.TheVariants.{Gf2, Gf256}
 use Rattle.mk_field.specs.declared.map.AddMap.{AddMap}
 use Rattle.mk_ssa.specs.declared.Operand.{Operand}
 use Rattle.mk_ssa.specs.declared.Operand.TheVariants.{Secret, Public, Block}
@@ -9,6 +11,8 @@ use Rattle.mk_ssa.specs.declared.Op.{Op}
 use Rattle.mk_ssa.specs.declared.Op.TheVariants as op
 use Rattle.mk_code.specs.declared.instr.Instr.{Instr}
 use Rattle.mk_code.specs.declared.instr.Instr.TheVariants as instr
+use Rattle.mk_lines.specs.declared.refusal.LineRefusal.{LineRefusal}
+use Rattle.mk_lines.specs.declared.refusal.LineRefusal.TheVariants as refusals
 
 -- what was read is read on, and what was not read is not
 infixl 10 ◌>>=◌
@@ -20,6 +24,12 @@ None >>= f = None
 abbrev pub Tells : {X Y : Type 0} → (X → Y) → Option X → Option Y → Type 0
 Tells view (Some x) read = read ≡ Some (view x)
 Tells view None read = read ≡ None
+
+-- what a function that reads and takes memory returned is what reading gives, unless memory ran out
+abbrev pub Gives : {X : Type 0} → Result X LineRefusal → Option X → Type 0
+Gives (Ok x) read = read ≡ Some x
+Gives (Err refusals.Form) read = read ≡ None
+Gives (Err refusals.Memory) read = Unit {0}
 
 -- the bytes behind this word, which stands at the front
 unfoldable pub after : List ℕ → List ℕ → Option (List ℕ)
@@ -47,12 +57,13 @@ number_at bytes = do
   n ← number_by (take_while is_ascii_digit bytes)
   Some (n, drop (length (take_while is_ascii_digit bytes)) bytes)
 
+-- a number, where it is below 2^32, and what stands behind it
+abbrev pub narrowed : ℕ → List ℕ → Option (ℕ × List ℕ)
+narrowed n rest = if nat_lt n (2 ^ 32) then Some (n, rest) else None
+
 -- the number that the digits at the front make behind those that make n, where it is below 2^32, and what stands behind them
 unfoldable pub digits_from : ℕ → List ℕ → Option (ℕ × List ℕ)
-digits_from n bytes =
-    if nat_lt (valued n (take_while is_ascii_digit bytes)) (2 ^ 32)
-    then Some (valued n (take_while is_ascii_digit bytes), drop (length (take_while is_ascii_digit bytes)) bytes)
-    else None
+digits_from n bytes = narrowed (valued n (take_while is_ascii_digit bytes)) (drop (length (take_while is_ascii_digit bytes)) bytes)
 
 -- a number and nothing behind it
 unfoldable pub number_of : List ℕ → Option ℕ
@@ -219,3 +230,9 @@ positions_of (suc n) len bytes = do
   rest ← after (codes " ") bytes
   position ← number_at rest
   if nat_lt position.0 len then (positions_of n len position.1 >>= λ positions. Some (position.0 ∷ positions)) else None
+
+-- the field that its line names
+unfoldable pub field_of : List ℕ → Option FieldId
+field_of line =
+    if bytes_eq line (codes "field gf2") then Some Gf2 else (
+    if bytes_eq line (codes "field gf256") then Some Gf256 else None)

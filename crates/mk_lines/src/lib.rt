@@ -4,6 +4,7 @@
 //! leading zeros, an element is two lower-case hexadecimal digits, and `V` is an operand, `sK`, `pK` or
 //! `bK`, for the secret, the public input or the block of number K. The lines are:
 //!
+//! - `field gf2` or `field gf256` for a field;
 //! - `map H` for an additive map, H being the images of the eight bits, that of bit 0 first;
 //! - `block const C`, `block padd V V`, `block pmul V V`, `block psq V`, `block pmap M V`,
 //!   `block lift V`, `block add V V`, `block addp V V`, `block scale V V`, `block sq V`, `block map M V`,
@@ -12,19 +13,24 @@
 //! - `rnd`, `const C`, `copy P`, `add P P`, `mul P P`, `sq P` or `map M P` for an instruction;
 //! - `out` and the positions of its shares for an output.
 //!
-//! A call that writes makes one line in position, and takes no memory. One that reads takes the bytes from their front on, and answers
-//! `None` where they don't spell what it reads.
+//! A call that writes makes one line in place, and takes no memory. One that reads takes the bytes from their front on,
+//! and answers `None` where they don't spell what it reads.
 #![tactic(auto)]
 
 mod cutting;
 mod lines;
 mod parse;
+mod refusal;
 mod words;
 
 pub use cutting::cut;
-pub use lines::{spell_claim, spell_instr, spell_map, spell_op, spell_out};
-pub use parse::{after, instr_at, instr_of, map_of, number_at, number_of, op_of, operand_of};
-pub use words::{Line, push_number};
+pub use lines::{field_line, spell_claim, spell_instr, spell_map, spell_op, spell_out};
+pub use parse::{
+    after, field_of, instr_at, instr_of, map_of, number_at, number_of, op_of, operand_of,
+    positions_of,
+};
+pub use refusal::LineRefusal;
+pub use words::{Line, MOST_LINE, push_number};
 
 #[cfg(test)]
 mod tests {
@@ -34,7 +40,7 @@ mod tests {
     use mk_ssa::{Op, Operand};
 
     #[test]
-    fn lines_are_made_in_position(rt: HostRuntime) {
+    fn lines_are_made_in_place(rt: HostRuntime) {
         let mut line = Line::new();
         let images = [1, 2, 4, 8, 16, 32, 64, 0xa7];
         spell_map(&mut line, AddMap { images });

@@ -1,19 +1,20 @@
-//! The lines as they are written. Each is made in position of what the line was before.
+//! The lines as they are written. Each is made in place of what the line was before.
 
 ghost use Rattle.std.specs.Prelude.{◌≡◌, ◌≤◌, ◌<◌, ◌+◌, ◌*◌, length, ◌^◌, ◌++◌, codes, flat_map, decimal};
 ghost use Rattle.std.specs.List.{AllByRecursion};
 ghost use Rattle.arrayvec.specs.ArrayString.{array_string_len};
 ghost use Rattle.mk_base.specs.declared.TheConstants.{TOP_ORDER};
+ghost use Rattle.mk_lines.specs.declared.words.TheConstants.{MOST_LINE};
 ghost use Rattle.mk_lines.specs.Words.{operand_word};
 ghost use Rattle.mk_field.specs.Digits.{hex_byte};
 ghost use Rattle.mk_lines.specs.CertLines.{block_line, pair_words, mapped_words, op_line, claim_line};
-ghost use Rattle.mk_lines.specs.CodeLines.{map_line, instr_line, position_word, out_line};
+ghost use Rattle.mk_lines.specs.CodeLines.{field_line, map_line, instr_line, position_word, out_line};
 ghost use Rattle.mk_ssa.specs.Widths.{OperandFits, OpFits};
 ghost use Rattle.mk_field.specs.Maps.{MapFits};
 
 use crate::words::{Line, push_hex, push_number, push_operand};
 use mk_code::Instr;
-use mk_field::AddMap;
+use mk_field::{AddMap, FieldId};
 use mk_ssa::{Op, Operand};
 
 /// Makes it the line of a map: its images, that of bit 0 first.
@@ -29,7 +30,7 @@ pub fn spell_map(line: &mut Line, map: AddMap)
 
 /// Appends elements, with nothing between them.
 fn push_images(line: &mut Line, images: &[u8; 8])
-    requires { array_string_len line.old + 20 ≤ 192 }
+    requires { array_string_len line.old + 20 ≤ MOST_LINE }
     ensures text { line.new.bytes ≡ line.old.bytes ++ flat_map hex_byte images.now }
     ensures fits { (length images.now ≡ 8) × AllByRecursion (λ b. b < 256) images.now }
     ensures len { array_string_len line.new ≡ array_string_len line.old + 16 }
@@ -204,5 +205,16 @@ fn push_positions(line: &mut Line, positions: &[u32])
     for position in positions {
         line.push_str(" ");
         push_number(line, *position);
+    }
+}
+
+/// The line of a field.
+pub fn field_line(field: FieldId) -> &'static str
+    ensures line { result.now ≡ field_line field }
+    ensures short { length result.now ≤ 12 }
+{
+    match field {
+        FieldId::Gf2 => "field gf2\n",
+        FieldId::Gf256 => "field gf256\n",
     }
 }

@@ -2,12 +2,14 @@
 
 ghost use Rattle.std.specs.Prelude.{◌≡◌, ◌≤◌, IfSome, take_while};
 ghost use Rattle.std.specs.Char.{is_ascii_digit};
-ghost use Rattle.mk_lines.specs.Parsing.{Tells, after, leads, digits_from, number_at, number_of, lower_hex_value, hex_at, hex_of, images_at, map_of, operand_by, operand_at, operand_of, pair_of, mapped_of, numbers_at, public_op_of, single_op_of, pair_op_of, op_of, add_at, mul_or_map_at, rnd_at, const_or_copy_at, sq_at, instr_at, instr_of};
+ghost use Rattle.mk_lines.specs.Parsing.{Tells, Gives, field_of, positions_of, after, leads, narrowed, digits_from, number_at, number_of, lower_hex_value, hex_at, hex_of, images_at, map_of, operand_by, operand_at, operand_of, pair_of, mapped_of, numbers_at, public_op_of, single_op_of, pair_op_of, op_of, add_at, mul_or_map_at, rnd_at, const_or_copy_at, sq_at, instr_at, instr_of};
 
-use mk_base::hex_value;
-use mk_code::Instr;
-use mk_field::AddMap;
+use crate::refusal::LineRefusal;
+use mk_base::{Items, hex_value};
+use mk_code::{Instr, PositionList};
+use mk_field::{AddMap, FieldId};
 use mk_ssa::{Op, Operand};
+use std::alloc::Global;
 
 /// The bytes behind this word, or `None` where it doesn't stand at their front.
 pub fn after<'a>(word: &[u8], bytes: &'a [u8]) -> Option<&'a [u8]>
@@ -39,24 +41,37 @@ fn leads(bytes: &[u8]) -> bool
     }
 }
 
-/// The number that the digits at the front make, and the bytes behind them. `None` where it has more than
-/// 32 bits.
-fn digits_at(bytes: &[u8]) -> Option<(u32, &[u8])>
-    ensures { Tells (λ x. (x.0, x.1.now)) result (digits_from 0 bytes.now) }
+/// The greatest number that a further digit may make one of 32 bits with.
+const MOST_BEFORE: u64 = 429_496_729;
+
+/// This number and the bytes behind it. `None` where it has more than 32 bits.
+fn narrowed(value: u64, rest: &[u8]) -> Option<(u32, &[u8])>
+    ensures { Tells (λ x. (x.0, x.1.now)) result (narrowed value rest.now) }
 {
-    let mut value = 0u64;
-    let mut rest = bytes;
-    for digit in bytes {
-        if !digit.is_ascii_digit() {
-            return Some((value as u32, rest));
-        }
-        value = value * 10 + u64::from(*digit - b'0');
-        if value > u64::from(u32::MAX) {
-            return None;
-        }
-        rest = &rest[1..];
+    if value > u64::from(u32::MAX) {
+        return None;
     }
     Some((value as u32, rest))
+}
+
+/// The number that the digits at the front make behind this digit, and the bytes behind them. `None` where it has more
+/// than 32 bits.
+fn digits_behind(first: u8, bytes: &[u8]) -> Option<(u32, &[u8])>
+    ensures { Tells (λ x. (x.0, x.1.now)) result (digits_from first bytes.now) }
+{
+    let mut value = u64::from(first);
+    let mut rest = bytes;
+    while let [digit, behind @ ..] = rest {
+        if !digit.is_ascii_digit() {
+            return narrowed(value, rest);
+        }
+        if value > MOST_BEFORE {
+            return None;
+        }
+        value = value * 10 + u64::from(*digit - b'0');
+        rest = behind;
+    }
+    narrowed(value, rest)
 }
 
 /// The number at the front, in decimal, which all digits there belong to, and the bytes behind it. `None`
@@ -68,7 +83,10 @@ pub fn number_at(bytes: &[u8]) -> Option<(u32, &[u8])>
     if !leads(bytes) {
         return None;
     }
-    digits_at(bytes)
+    let [first, behind @ ..] = bytes else {
+        return None;
+    };
+    digits_behind(*first - b'0', behind)
 }
 
 /// A number, as `number_at` reads it, with nothing behind it.
@@ -399,4 +417,49 @@ pub fn instr_of(words: &[u8]) -> Option<Instr>
         return None;
     }
     Some(instr)
+}
+
+/// The field of its line, up to the line feed: `field gf2` or `field gf256`.
+#[tactic(auto, unfolding(crate::specs::Parsing::field_of))]
+pub fn field_of(line: &[u8]) -> Option<FieldId>
+    ensures { result ≡ field_of line.now }
+{
+    if line == b"field gf2".as_slice() {
+        return Some(FieldId::Gf2);
+    }
+    if line == b"field gf256".as_slice() {
+        return Some(FieldId::Gf256);
+    }
+    None
+}
+
+/// So many positions below `len`, a space before each and nothing behind them. Refused are other bytes, and where
+/// memory is wanted and not found.
+pub fn positions_of(
+    alloc: Global,
+    count: u32,
+    len: u32,
+    words: &[u8],
+) -> Result<PositionList, LineRefusal>
+    ensures { Gives result (positions_of count len words.now) }
+{
+    let mut positions = Items::new(alloc);
+    let mut rest = words;
+    for _ in 0..count {
+        let Some(word) = after(b" ", rest) else {
+            return Err(LineRefusal::Form);
+        };
+        let Some((position, behind)) = number_at(word) else {
+            return Err(LineRefusal::Form);
+        };
+        if position >= len {
+            return Err(LineRefusal::Form);
+        }
+        positions.push(position)?;
+        rest = behind;
+    }
+    if !rest.is_empty() {
+        return Err(LineRefusal::Form);
+    }
+    Ok(positions)
 }

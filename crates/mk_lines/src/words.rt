@@ -1,5 +1,6 @@
 ghost use Rattle.std.specs.Prelude.{◌≡◌, ◌≤◌, ◌+◌, ◌<◌, ◌++◌, [], ◌∷◌, length, decimal};
 ghost use Rattle.arrayvec.specs.ArrayString.{array_string_len};
+ghost use Rattle.mk_lines.specs.declared.words.TheConstants.{MOST_LINE};
 ghost use Rattle.mk_lines.specs.Words.{operand_word};
 ghost use Rattle.mk_field.specs.Digits.{hex_digit, hex_byte};
 ghost use Rattle.mk_ssa.specs.Widths.{OperandFits};
@@ -8,12 +9,15 @@ use arrayvec::ArrayString;
 use itoa::Buffer;
 use mk_ssa::Operand;
 
-/// A line, which is made in position, so that it takes no memory. No line of these texts has more bytes.
-pub type Line = ArrayString<192>;
+/// No line of these texts has more bytes.
+pub const MOST_LINE: usize = 192;
+
+/// A line, which is made in place, so that it takes no memory.
+pub type Line = ArrayString<MOST_LINE>;
 
 /// Appends a number, which has at most ten digits.
 pub fn push_number(line: &mut Line, number: u32)
-    requires { array_string_len line.old + 10 ≤ 192 }
+    requires { array_string_len line.old + 10 ≤ MOST_LINE }
     ensures text { line.new.bytes ≡ line.old.bytes ++ decimal number }
     ensures len { array_string_len line.new ≤ array_string_len line.old + 10 }
 {
@@ -36,7 +40,7 @@ fn hex_digit(value: u8) -> char
 /// Appends a character of one byte.
 fn push_ascii(line: &mut Line, character: char)
     requires ascii { character < 128 }
-    requires room { array_string_len line.old + 4 ≤ 192 }
+    requires room { array_string_len line.old + 4 ≤ MOST_LINE }
     ensures text { line.new.bytes ≡ line.old.bytes ++ character ∷ [] }
     ensures len { array_string_len line.new ≡ array_string_len line.old + 1 }
 {
@@ -46,7 +50,7 @@ fn push_ascii(line: &mut Line, character: char)
 
 /// Appends an element, as two digits.
 pub(crate) fn push_hex(line: &mut Line, value: u8)
-    requires { array_string_len line.old + 5 ≤ 192 }
+    requires { array_string_len line.old + 5 ≤ MOST_LINE }
     ensures text { line.new.bytes ≡ line.old.bytes ++ hex_byte value }
     ensures len { array_string_len line.new ≡ array_string_len line.old + 2 }
 {
@@ -56,7 +60,7 @@ pub(crate) fn push_hex(line: &mut Line, value: u8)
 
 /// Appends an operand: a letter for its kind, and its number.
 pub(crate) fn push_operand(line: &mut Line, operand: Operand)
-    requires { array_string_len line.old + 11 ≤ 192 }
+    requires { array_string_len line.old + 11 ≤ MOST_LINE }
     ensures text { line.new.bytes ≡ line.old.bytes ++ operand_word operand }
     ensures fits { OperandFits operand }
     ensures len { array_string_len line.new ≤ array_string_len line.old + 11 }
@@ -70,7 +74,7 @@ pub(crate) fn push_operand(line: &mut Line, operand: Operand)
 
 /// Appends a letter and a number.
 fn push_kind(line: &mut Line, kind: &str, number: u32)
-    requires room { array_string_len line.old + 11 ≤ 192 }
+    requires room { array_string_len line.old + 11 ≤ MOST_LINE }
     requires letter { length kind.now ≡ 1 }
     ensures text { line.new.bytes ≡ line.old.bytes ++ kind.now ++ decimal number }
     ensures len { array_string_len line.new ≤ array_string_len line.old + 11 }

@@ -40,6 +40,7 @@ pub absent-pushed : (ts terms new : List Term) (t : Term) (es : List ℕ) → te
 absent-pushed ts terms new t es same_terms same absent is =
     is ∙ sym (with_term-none ts t (λ k d below e. absent k d (rw same_terms below) (rw same_terms (e ∙ sym same))))
 
+-- where one has its exponents, the coefficients are added
 pub found-joined : (ts terms new : List Term) (t u d : Term) (es : List ℕ) (i : ℕ) → terms ≡ ts → es ≡ t.exponents
     → (i < length terms) × HoldsAt (λ w. w.exponents ≡ es) terms i × AllWithin (λ w. w.exponents ≢ es) terms 0 i
     → u ≡ get_or ts i u → new ≡ take i ts ++ with_coefficient (get_or ts i d) (bit_xor u.coefficient t.coefficient) (drop (i + 1) ts)

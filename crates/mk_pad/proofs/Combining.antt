@@ -22,6 +22,7 @@ unfolding with_term
 with_term-same u t us same =
     rw ((bytes_eq-Decides u.exponents t.exponents).1 same) refl
 
+-- and with other exponents it stays
 pub with_term-other : (u t : Term) (us : List Term) → u.exponents ≢ t.exponents → with_term (u ∷ us) t ≡ u ∷ with_term us t
 unfolding with_term
 with_term-other u t us differ = elim (cases_Bool (bytes_eq u.exponents t.exponents)) [
@@ -44,6 +45,7 @@ all-with_coefficient P u c us here rest = elim (cases_eq c 0) [
   | inr nonzero ↦ rw (ne_eqb c 0 nonzero) (here nonzero, rest)
 ]
 
+-- what holds of all terms, and of one with the same exponents, holds with one term more
 pub all-with_term : (P : Term → Type 0) (t : Term) (us : List Term)
     → ((u : Term) (c : ℕ) → P u → P t → u.exponents ≡ t.exponents → c ≡ bit_xor u.coefficient t.coefficient → c ≢ 0 → P (record u { coefficient = c }))
     → AllByRecursion P us → P t → AllByRecursion P (with_term us t)
@@ -125,6 +127,7 @@ exponents_sum-below field (x ∷ xs) [] left right = tt
 exponents_sum-below field (x ∷ xs) (y ∷ ys) left right =
     (reduced-below field x y left.0 right.0, exponents_sum-below field xs ys left.1 right.1)
 
+-- sums of exponents are as many
 pub exponents_sum-length : (field : FieldId) (xs ys : List ℕ) → length xs ≡ length ys → length (exponents_sum field xs ys) ≡ length xs
 unfolding exponents_sum
 exponents_sum-length field [] ys same = refl
@@ -153,6 +156,7 @@ products-with : (field : FieldId) (n : ℕ) (p : Term) (qs : List Term) → IsTe
 products-with field n p [] here right = tt
 products-with field n p (q ∷ qs) here right = (term_product-fits field n p q here right.0, products-with field n p qs here right.1)
 
+-- the products of all terms are terms
 pub products-fit : (field : FieldId) (n : ℕ) (ps qs : List Term) → AllByRecursion (IsTerm field n) ps → AllByRecursion (IsTerm field n) qs
     → AllByRecursion (IsTerm field n) (flat_map (λ p. map (term_product field p) qs) ps)
 products-fit field n [] qs left right = tt
@@ -166,6 +170,7 @@ pub polynomial-times : (field : FieldId) (n : ℕ) (ps qs : List Term) → IsPol
 polynomial-times field n ps qs left right =
     polynomial-plus field n [] (flat_map (λ p. map (term_product field p) qs) ps) (polynomial-nil field n) (products-fit field n ps qs left.terms right.terms)
 
+-- and so are the squares
 pub squares-fit : (field : FieldId) (n : ℕ) (ps : List Term) → AllByRecursion (IsTerm field n) ps
     → AllByRecursion (IsTerm field n) (map (λ p. term_product field p p) ps)
 squares-fit field n [] here = tt

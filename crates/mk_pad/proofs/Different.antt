@@ -24,6 +24,7 @@ searched : (xs : List ℕ) (i : ℕ) (r : Bool) → r ≡ list_any (λ y. nat_eq
     → r ≡ list_any (λ y. nat_eq y (slice_index xs i)) (drop (i + 1) xs)
 searched xs i r is = is ∙ ap (list_any (λ y. nat_eq y (slice_index xs i))) (take_rest xs (i + 1))
 
+-- a number that stands again later
 pub not-different : (xs : List ℕ) (i : ℕ) (r : Bool) → i < length xs
     → r ≡ list_any (λ y. nat_eq y (slice_index xs i)) (take (length xs - (i + 1)) (drop (i + 1) xs))
     → r ≡ true → IsDistinct nat_eq (drop i xs) → ⊥
@@ -32,6 +33,7 @@ not-different xs i r within is some distinct =
     let whole : IsDistinct nat_eq (slice_index xs i ∷ drop (i + 1) xs) = subst (IsDistinct nat_eq) (drop_more xs i 0 within) distinct in
     found (slice_index xs i) (drop (i + 1) xs) (sym (searched xs i r is) ∙ some) whole.0
 
+-- one number more that does not stand again
 pub different-more : (xs : List ℕ) (i : ℕ) (r : Bool) → i < length xs
     → r ≡ list_any (λ y. nat_eq y (slice_index xs i)) (take (length xs - (i + 1)) (drop (i + 1) xs))
     → r ≡ false → IsDistinct nat_eq xs ↔ IsDistinct nat_eq (drop i xs) → IsDistinct nat_eq xs ↔ IsDistinct nat_eq (drop (i + 1) xs)

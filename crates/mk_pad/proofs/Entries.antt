@@ -27,6 +27,7 @@ unfolding AllBelow
 zeros-below q zero least = tt
 zeros-below q (suc n) least = (omega arith, zeros-below q n least)
 
+-- and with a 1 among them they are small too
 unit-below : (q n v : ℕ) → 1 < q → AllBelow q (slice_set (replicate n 0) v 1)
 unfolding AllBelow
 unit-below q zero v least = tt

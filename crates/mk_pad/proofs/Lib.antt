@@ -9,3 +9,7 @@ pub mod Right
 pub mod Adding
 pub mod Walk
 pub mod Different
+pub mod Members
+pub mod Rests
+pub mod Hiding
+pub mod Strengths

@@ -50,9 +50,11 @@ variables-at field n k (suc m) xs here room =
 pub shares-length : (n shares : ℕ) → length (variables n shares) ≡ shares
 shares-length n shares = length-map (range_with_len 0 shares) (variable n) ∙ length-range_with_len 0 shares
 
+-- the instructions fit behind the shares
 pub shares-fit : (g : GadgetForm) → IsGadget g → AllFit g.field 0 (length (variables (variable_count g) (share_count g))) g.instrs
 shares-fit g here = subst (λ (len : ℕ). AllFit g.field 0 len g.instrs) (sym (shares-length (variable_count g) (share_count g))) here.fit
 
+-- all positions have polynomials
 pub polynomials-fit : (g : GadgetForm) → IsGadget g → AllByRecursion (IsPolynomial g.field (variable_count g)) (polynomials g)
 polynomials-fit g here =
     polynomials_from-fit g.field (variable_count g) g.instrs (share_count g) (variables (variable_count g) (share_count g)) (shares-fit g here)
@@ -70,6 +72,7 @@ length-polynomials_from field n (i ∷ is) next positions =
       length-append positions (next_polynomial field n i next positions ∷ []),
     )
 
+-- one for each position
 pub polynomials-length : (g : GadgetForm) → length (polynomials g) ≡ position_count g
 polynomials-length g =
     length-polynomials_from g.field (variable_count g) g.instrs (share_count g) (variables (variable_count g) (share_count g)) ∙ ap (λ (k : ℕ). k + length g.instrs) (shares-length (variable_count g) (share_count g))
@@ -93,6 +96,7 @@ pub sum_from-fits : (field : FieldId) (n : ℕ) (acc : List Term) (positions : L
 sum_from-fits field n acc [] front fit = front
 sum_from-fits field n acc (ps ∷ positions) front fit = sum_from-fits field n (plus acc ps) positions (polynomial-plus field n acc ps front fit.0.terms) fit.1
 
+-- the sum of all polynomials is one
 pub sum_all-fits : (field : FieldId) (n : ℕ) (positions : List (List Term)) → AllByRecursion (IsPolynomial field n) positions → IsPolynomial field n (sum_all positions)
 sum_all-fits field n positions fit = sum_from-fits field n [] positions (polynomial-nil field n) fit
 
@@ -107,6 +111,7 @@ sum_from-at field n acc (ps ∷ positions) xs front fit =
     ∙ ap (λ (x : ℕ). bit_xor x (field_sum (map (λ qs. value field qs xs) positions))) (value-plus field n acc ps xs front.terms fit.0.terms)
     ∙ sum-assoc (value field acc xs) (value field ps xs) (field_sum (map (λ qs. value field qs xs) positions))
 
+-- its value is the sum of their values
 pub sum_all-at : (field : FieldId) (n : ℕ) (positions : List (List Term)) (xs : List ℕ) → AllByRecursion (IsPolynomial field n) positions
     → value field (sum_all positions) xs ≡ field_sum (map (λ ps. value field ps xs) positions)
 unfolding value
@@ -119,6 +124,7 @@ all-take P zero positions fit = tt
 all-take P (suc m) [] fit = tt
 all-take P (suc m) (ps ∷ positions) fit = (fit.0, all-take P m positions fit.1)
 
+-- what holds of each holds of each from a place on
 pub all-drop : (P : List Term → Type 0) (m : ℕ) (positions : List (List Term)) → AllByRecursion P positions → AllByRecursion P (drop m positions)
 all-drop P zero positions fit = fit
 all-drop P (suc m) [] fit = tt
@@ -133,6 +139,7 @@ wanted-fits field Mul n m positions fit =
     (sum_all-fits field n (drop m positions) (all-drop (IsPolynomial field n) m positions fit))
 wanted-fits field Refresh n m positions fit = sum_all-fits field n positions fit
 
+-- the value of the wanted polynomial is the wanted value
 wanted-at : (field : FieldId) (kind : GadgetKind) (n m : ℕ) (positions : List (List Term)) (xs : List ℕ) → AllByRecursion (IsPolynomial field n) positions
     → AllBelow (size field) xs
     → value field (wanted_polynomial field kind m positions) xs ≡ wanted_value field kind m (map (λ ps. value field ps xs) positions)
@@ -154,6 +161,7 @@ pub observed-fit : (field : FieldId) (n : ℕ) (positions : List (List Term)) (o
 observed-fit field n positions [] fit = tt
 observed-fit field n positions (p ∷ outs) fit = (polynomial_at-fits field n positions p fit, observed-fit field n positions outs fit)
 
+-- the values of the polynomials of the outs are what is observed
 observed-at : (field : FieldId) (positions : List (List Term)) (outs xs : List ℕ) → All (λ p. p < length positions) outs
     → map (λ ps. value field ps xs) (map (polynomial_at positions) outs) ≡ observation outs (map (λ ps. value field ps xs) positions)
 observed-at field positions [] xs within = refl
@@ -167,17 +175,20 @@ observed-at field positions (p ∷ outs) xs within =
 abbrev pub difference : GadgetForm → List Term
 difference g = plus (outs_polynomial g) (wanted_polynomial g.field g.kind (g.order + 1) (take (share_count g) (polynomials g)))
 
+-- the sum of the polynomials of the outs is a polynomial
 pub outs-fit : (g : GadgetForm) → IsGadget g → IsPolynomial g.field (variable_count g) (outs_polynomial g)
 outs-fit g here =
     sum_all-fits g.field (variable_count g) (map (polynomial_at (polynomials g)) g.outs)
     (observed-fit g.field (variable_count g) (polynomials g) g.outs (polynomials-fit g here))
 
+-- and so is the wanted one
 pub wanted_of-fit : (g : GadgetForm) → IsGadget g
     → IsPolynomial g.field (variable_count g) (wanted_polynomial g.field g.kind (g.order + 1) (take (share_count g) (polynomials g)))
 wanted_of-fit g here =
     wanted-fits g.field g.kind (variable_count g) (g.order + 1) (take (share_count g) (polynomials g))
     (all-take (IsPolynomial g.field (variable_count g)) (share_count g) (polynomials g) (polynomials-fit g here))
 
+-- and the sum of the two
 difference-fits : (g : GadgetForm) → IsGadget g → IsPolynomial g.field (variable_count g) (difference g)
 difference-fits g here =
     polynomial-plus g.field (variable_count g) (outs_polynomial g) (wanted_polynomial g.field g.kind (g.order + 1) (take (share_count g) (polynomials g)))
@@ -220,6 +231,7 @@ right-at g shares tape here first second is_zero = record {
       (sym (difference-at g shares tape here first second) ∙ is_zero);
 }
 
+-- where the outs are right, the sum of the two is 0
 zero-at : (g : GadgetForm) (shares tape : List ℕ) → IsGadget g → Elements (size g.field) (share_count g) shares
     → Elements (size g.field) (randoms g.instrs) tape → IsRightAt g shares tape → value g.field (difference g) (shares ++ tape) ≡ 0
 zero-at g shares tape here first second right =
@@ -333,6 +345,7 @@ operands-few : (kind : GadgetKind) (m : ℕ) → operands kind * m ≤ 2 * m
 operands-few Mul m = omega arith
 operands-few Refresh m = omega arith
 
+-- there are few variables
 pub variables-few : (g : GadgetForm) → IsGadget g → variable_count g < 1000
 variables-few g here = omega (arith, operands-few g.kind (g.order + 1), here.order.1, here.few, randoms-le g.instrs)
 
@@ -346,10 +359,12 @@ pub own-fit : (g : GadgetForm) (field : FieldId) (shares : ℕ) (is : List Instr
     → AllFit field 0 shares is
 own-fit g field shares is here same count own = rw (same, count, own) here.fit
 
+-- the polynomials of its own instructions
 pub own-polynomials : (g : GadgetForm) (field : FieldId) (n shares : ℕ) (is : List Instr) → field ≡ g.field → n ≡ variable_count g → shares ≡ share_count g → is ≡ g.instrs
     → polynomials_of field n shares is ≡ polynomials g
 own-polynomials g field n shares is same all count own = rw (same, all, count, own) refl
 
+-- and their counts
 pub own-counts : (g : GadgetForm) (field : FieldId) (n shares : ℕ) (is : List Instr) → field ≡ g.field → n ≡ variable_count g → shares ≡ share_count g → is ≡ g.instrs
     → counts_of field n shares is ≡ counts g
 own-counts g field n shares is same all count own = rw (same, all, count, own) refl

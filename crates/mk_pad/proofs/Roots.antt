@@ -18,6 +18,7 @@ horner field (suc n) c a = bit_xor (c 0) (product field a (horner field n (λ k.
 abbrev pub AreElements : FieldId → (ℕ → ℕ) → Type 0
 AreElements field c = (k : ℕ) → c k < size field
 
+-- the value of a polynomial in one variable is an element
 pub horner-in_field : (field : FieldId) (n : ℕ) (c : ℕ → ℕ) (a : ℕ) → AreElements field c → a < size field → horner field n c a < size field
 unfolding horner
 horner-in_field field zero c a elements below = zero-element field
@@ -30,6 +31,7 @@ quotient field r zero c j = 0
 quotient field r (suc n) c zero = horner field (suc n) c r
 quotient field r (suc n) c (suc j) = quotient field r n (λ k. c (suc k)) j
 
+-- the coefficients of a quotient are elements
 quotient-elements : (field : FieldId) (r n : ℕ) (c : ℕ → ℕ) → AreElements field c → r < size field → AreElements field (quotient field r n c)
 unfolding quotient
 quotient-elements field r zero c elements below j = zero-element field
@@ -125,6 +127,7 @@ unfolding quotient horner
 tail-zero field r zero c zeros = refl
 tail-zero field r (suc n) c zeros = zeros 1 (omega arith)
 
+-- where the quotient is 0, so are the coefficients
 quotient-zero : (field : FieldId) (r n : ℕ) (c : ℕ → ℕ) → ((j : ℕ) → j < n → quotient field r n c j ≡ 0) → (k : ℕ) → k < n → c k ≡ 0
 unfolding quotient horner
 quotient-zero field r zero c zeros k within = absurd (omega arith)

@@ -32,14 +32,17 @@ unfolding AllBelow
 elements-head q n [] here = absurd (omega (arith, here.count))
 elements-head q n (e ∷ es) here = here.below.0
 
+-- the other exponents
 elements-tail : (q n : ℕ) (es : List ℕ) → Elements q (suc n) es → Elements q n (drop 1 es)
 unfolding AllBelow
 elements-tail q n [] here = absurd (omega (arith, here.count))
 elements-tail q n (e ∷ es) here = record { count = omega (arith, here.count); below = here.below.1 }
 
+-- a term without its first variable is a term
 without-fits : (field : FieldId) (n : ℕ) (t : Term) → IsTerm field (suc n) t → IsTerm field n (without t)
 without-fits field n t here = record { exponents = elements-tail (size field) n t.exponents here.exponents; element = here.element; nonzero = here.nonzero }
 
+-- so are those of one exponent of the first variable
 part-fits : (field : FieldId) (n k : ℕ) (ts : List Term) → AllByRecursion (IsTerm field (suc n)) ts → AllByRecursion (IsTerm field n) (part k ts)
 unfolding part
 part-fits field n k [] here = tt
@@ -55,6 +58,7 @@ unfolding monomial_at
 monomial-split field q n [] x xs here = absurd (omega (arith, here.count))
 monomial-split field q n (e ∷ es) x xs here = refl
 
+-- a term is a power of the first variable times the rest
 term-split : (field : FieldId) (n : ℕ) (t : Term) (x : ℕ) (xs : List ℕ) → IsTerm field (suc n) t → x < size field → AllBelow (size field) xs
     → product field (term_at field (without t) xs) (raised field x (slice_index t.exponents 0)) ≡ term_at field t (x ∷ xs)
 term-split field n t x xs here small below =

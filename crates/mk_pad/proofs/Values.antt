@@ -114,6 +114,7 @@ value-products_with field n p (q ∷ qs) xs here right below =
     ∙ ap (bit_xor (product field (term_at field p xs) (term_at field q xs))) (value-products_with field n p qs xs here right.1 below)
     ∙ sym (product-sum_right field (term_at field p xs) (term_at field q xs) (value field qs xs))
 
+-- the value of all products is the product of the values
 value-products : (field : FieldId) (n : ℕ) (ps qs : List Term) (xs : List ℕ) → AllByRecursion (IsTerm field n) ps → AllByRecursion (IsTerm field n) qs
     → AllBelow (size field) xs
     → value field (flat_map (λ p. map (term_product field p) qs) ps) xs ≡ product field (value field ps xs) (value field qs xs)
@@ -137,6 +138,7 @@ value-times field n ps qs xs left right below =
     ∙ sum-zero_left (value field all xs)
     ∙ value-products field n ps qs xs left.terms right.terms below
 
+-- the value of all squares is the square of the value
 value-squares : (field : FieldId) (n : ℕ) (ps : List Term) (xs : List ℕ) → AllByRecursion (IsTerm field n) ps → AllBelow (size field) xs
     → value field (map (λ p. term_product field p p) ps) xs ≡ square field (value field ps xs)
 unfolding value

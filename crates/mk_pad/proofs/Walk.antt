@@ -55,6 +55,7 @@ length-counts_from field n [] next positions = refl
 length-counts_from field n (i ∷ is) next positions =
     ap suc (length-counts_from field n is (next + takes i) (positions ++ next_polynomial field n i next positions ∷ []))
 
+-- there is a count for each instruction
 pub counts-length : (field : FieldId) (n shares : ℕ) (is : List Instr) → length (counts_of field n shares is) ≡ length is
 counts-length field n shares is = length-counts_from field n is shares (variables n shares)
 
@@ -113,6 +114,7 @@ unfolding polynomials_from
 walk-all field n shares is i next positions here past =
     sym (ap (λ (js : List Instr). polynomials_from field n js next positions) (drop_all i is past)) ∙ here.polynomials
 
+-- all counts are small at the end
 pub walk-few : (field : FieldId) (n shares : ℕ) (is : List Instr) (i next : ℕ) (positions : List (List Term)) → IsWalk field n shares is i next positions
     → length is ≤ i → AreFew (counts_of field n shares is)
 walk-few field n shares is i next positions here past =

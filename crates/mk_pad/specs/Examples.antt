@@ -1,5 +1,6 @@
 -- Small gadgets, and their polynomials.
-use Rattle.std.specs.Prelude.{◌≡◌, ℕ, ◌+◌, take, List, [], ◌∷◌, slice_index, refl}
+use Rattle.std.specs.Prelude.{◌≡◌, ℕ, ◌+◌, take, false, not, List, [], ◌∷◌, slice_index, refl}
+use Rattle.std.specs.List.{list_any}
 use Rattle.mk_field.specs.declared.field.FieldId.TheVariants.{Gf2, Gf256}
 use Rattle.mk_field.specs.Field.{sum_bits, raised}
 use Rattle.mk_field.specs.Sharing.{field_sum}
@@ -8,6 +9,7 @@ use Rattle.mk_code.specs.Trace.{randoms, run}
 use Rattle.mk_pad.specs.declared.kind.GadgetKind.TheVariants.{Mul, Refresh}
 use Rattle.mk_pad.specs.declared.term.Term.{Term}
 use Rattle.mk_pad.specs.Form.{GadgetForm, share_count}
+use Rattle.mk_pad.specs.Shown.{occurs, IsAdded, polynomial_of, shares_in, inner}
 use Rattle.mk_pad.specs.Polynomial.{monomial_at, value, with_term, exponents_sum, plus}
 use Rattle.mk_pad.specs.Positions.{polynomials_from, polynomials, counts_from, counts}
 use Rattle.mk_pad.specs.Value.{outs_polynomial, wanted_polynomial, wanted_value}
@@ -52,6 +54,20 @@ other_product = record bit_product {
   instrs = instr.Rnd ∷ instr.Mul 0 3 ∷ instr.Mul 1 2 ∷ instr.Add 5 6 ∷ instr.Add 4 7 ∷ instr.Mul 0 2 ∷ instr.Add 9 4 ∷ instr.Mul 1 3 ∷ instr.Add 11 8 ∷ [];
 }
 
+-- the sum of the cross products has both shares of each operand, and no random element is added in it: it isn't shown
+pub other_product-shares : shares_in other_product (7 ∷ []) 0 ≡ 2
+unfolding with_term exponents_sum polynomials_from randoms
+other_product-shares = refl
+
+-- so many of its positions are no outs
+pub other_product-inner : inner other_product (7 ∷ 10 ∷ []) ≡ 1
+other_product-inner = refl
+
+-- in the product before it a random element is added in this sum, beside one product of shares
+pub bit_product-added : IsAdded 5 4 (polynomial_of bit_product 6)
+unfolding with_term exponents_sum polynomials_from randoms
+bit_product-added = refl
+
 -- it is right too
 pub other_product-right : both other_product ≡ []
 unfolding with_term exponents_sum polynomials_from randoms
@@ -66,6 +82,21 @@ short_refresh = record {
   instrs = instr.Rnd ∷ instr.Add 0 3 ∷ instr.Add 1 3 ∷ instr.Rnd ∷ instr.Add 4 6 ∷ instr.Add 2 6 ∷ [];
   outs = 7 ∷ 5 ∷ 8 ∷ [];
 }
+
+-- one random element is added in the first two sums, so that neither can be left out: two shares occur, and one of the
+-- two positions is an out
+pub short_refresh-shares : shares_in short_refresh (4 ∷ 5 ∷ []) 0 ≡ 2
+unfolding with_term polynomials_from randoms
+short_refresh-shares = refl
+
+-- so the two aren't shown
+pub short_refresh-inner : inner short_refresh (4 ∷ 5 ∷ []) ≡ 1
+short_refresh-inner = refl
+
+-- the element occurs in both
+pub short_refresh-both : list_any (λ p. not (occurs 3 (polynomial_of short_refresh p))) (4 ∷ 5 ∷ []) ≡ false
+unfolding with_term polynomials_from randoms
+short_refresh-both = refl
 
 -- its value is right
 pub short_refresh-right : both short_refresh ≡ []

@@ -16,7 +16,7 @@ mod terms;
 pub use form::{are_outs, fits, has_form};
 pub use gadget::Gadget;
 pub use kind::GadgetKind;
-pub use laws::{polynomial_laws, positions_law};
+pub use laws::{polynomial_laws, positions_law, rest_law, strength_law};
 pub use refusal::{PadRefusal, Verdict};
 pub use rightness::right_value;
 

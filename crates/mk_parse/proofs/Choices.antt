@@ -119,17 +119,20 @@ module _ {A : Type 0} (test : Token → Bool) (more : Token → Bool)
   is_second : (ts : List Token) → starts test ts ≡ false → (second : Reader A) → chosen test first second ts ≡ second ts
   is_second ts e second = ap (λ (b : Bool). cond b (first ts) (second ts)) e
 
+  -- what the phrase spells passes the test, whatever stands behind it
   begins_so : (taken : List Token) (a : A) (rest : List Token) → phrase taken a → starts test (taken ++ rest) ≡ true
   begins_so taken a rest spelled =
       let h = begins taken a spelled in
       ap (λ (l : List Token). starts test (l ++ rest)) h.2 ∙ h.3
 
+  -- the test answers the same with other tokens behind that begin as the first ones did
   kept : (ts taken rest other : List Token) (b : Bool) → ts ≡ taken ++ rest → SameHead rest other → starts test ts ≡ b → starts test (taken ++ other) ≡ b
   kept ts taken rest other b parts s e = starts_same test (taken ++ rest) (taken ++ other) (same_head taken rest other s) ∙ ap (starts test) (sym parts) ∙ e
 
   module _ {second : Reader A} {other_phrase : Phrase A} {other_goes_on : Token → Bool} (others : Reads second other_phrase other_goes_on)
       (apart : (back : List Token) (b : A) (rest : List Token) → other_phrase back b → Stops more rest → starts test (back ++ rest) ≡ false)
       (other_stop : (t : Token) → more t ≡ false → other_goes_on t ≡ false) where
+    -- what the choice found is what the reader that it chose found
     or_found : (ts : List Token) (a : A) (rest : List Token) → chosen test first second ts ≡ Ok (a, rest) → Found (chosen test first second) (phrase or other_phrase) ts a rest
     or_found ts a rest e = elim (cond_is (starts test ts) (first ts) (second ts) (Ok (a, rest)) e) [
       | inl h ↦ (
@@ -150,12 +153,14 @@ module _ {A : Type 0} (test : Token → Bool) (more : Token → Bool)
           })
     ]
 
+    -- the choice reads what either phrase spells
     or_only : (taken : List Token) (a : A) (rest : List Token) → (phrase or other_phrase) taken a → Stops more rest → chosen test first second (taken ++ rest) ≡ Ok (a, rest)
     or_only taken a rest spelled stops = elim spelled [
       | inl h ↦ is_first (taken ++ rest) (begins_so taken a rest h) second ∙ reads.only taken a rest h (stops_weaker more goes_on stop rest stops)
       | inr h ↦ is_second (taken ++ rest) (apart taken a rest h stops) second ∙ others.only taken a rest h (stops_weaker more other_goes_on other_stop rest stops)
     ]
 
+    -- the choice is stuck where the reader that it chose is
     or_stuck : (ts bad : List Token) → chosen test first second ts ≡ Err bad → Stuck (chosen test first second) (phrase or other_phrase) ts bad
     or_stuck ts bad e = elim (cond_is (starts test ts) (first ts) (second ts) (Err bad) e) [
       | inl h ↦ (
@@ -203,6 +208,7 @@ module _ {A : Type 0} (test : Token → Bool) (more : Token → Bool)
         again = λ other s. is_first (found.taken ++ other) (kept ts found.taken rest other true found.parts s h.0) fails ∙ found.again other s;
       }
 
+  -- the choice is stuck at a token that fails the test, or where its reader is
   alone_stuck : (ts bad : List Token) → chosen test first fails ts ≡ Err bad → Stuck (chosen test first fails) phrase ts bad
   alone_stuck ts bad e = elim (cond_err (starts test ts) (first ts) ts bad e) [
     | inl h ↦ (

@@ -11,16 +11,20 @@ token_of word = record { text = word; at = record { line = 1; column = 1 } }
 
 -- the word or symbol, and then the phrase
 module _ {A : Type 0} (word : List ℕ) {reader : Reader A} {phrase : Phrase A} {goes_on : Token → Bool} (reads : Reads reader phrase goes_on) where
+  -- a word that passes is dropped before the reader begins
   past_by : (b : Bool) (ts bad : List Token) → (cond b (read (Unit {0}) (tt, ts)) (Err bad) >>= (λ x. reader x.1)) ≡ cond b (reader ts) (Err bad)
   past_by true ts bad = refl
   past_by false ts bad = refl
 
+  -- behind the word the reader goes on
   past_word : (t : Token) (ts : List Token) → t.text ≡ word → past word reader (t ∷ ts) ≡ reader ts
   past_word t ts is = past_by (says word t) ts (t ∷ ts) ∙ ap (λ (b : Bool). cond b (reader ts) (Err (t ∷ ts))) (is_says word t is)
 
+  -- at another token it stands still
   past_other : (t : Token) (ts : List Token) → says word t ≡ false → past word reader (t ∷ ts) ≡ Err (t ∷ ts)
   past_other t ts isnt = past_by (says word t) ts (t ∷ ts) ∙ ap (λ (b : Bool). cond b (reader ts) (Err (t ∷ ts))) isnt
 
+  -- what was found behind the word, with the word before it
   past_found : (ts : List Token) (a : A) (rest : List Token) → past word reader ts ≡ Ok (a, rest) → Found (past word reader) (after word phrase) ts a rest
   past_found [] a rest e = absurd cc
   past_found (t ∷ ts) a rest e =
@@ -33,23 +37,28 @@ module _ {A : Type 0} (word : List ℕ) {reader : Reader A} {phrase : Phrase A} 
         again = λ other s. past_word t (found.taken ++ other) (says_is word t h.0) ∙ found.again other s;
       }
 
+  -- what the phrase spells behind the word is read
   past_only : (taken : List Token) (a : A) (rest : List Token) → after word phrase taken a → Stops goes_on rest → past word reader (taken ++ rest) ≡ Ok (a, rest)
   past_only taken a rest spelled stops =
       ap (λ (l : List Token). past word reader (l ++ rest)) spelled.2
       ∙ past_word spelled.0 (spelled.1 ++ rest) spelled.3
       ∙ reads.only spelled.1 a rest spelled.4 stops
 
+  -- it stands still at every list that begins with such a token
   past_fails : (t : Token) (ts other : List Token) → says word t ≡ false → SameHead (t ∷ ts) other → past word reader other ≡ Err other
   past_fails t ts [] isnt s = absurd s
   past_fails t ts (u ∷ us) isnt s = past_other u us (ap (says word) (sym s) ∙ isnt)
 
+  -- and where there are no tokens
   past_fails_nil : (other : List Token) → SameHead [] other → past word reader other ≡ Err other
   past_fails_nil [] s = refl
   past_fails_nil (u ∷ us) s = absurd s
 
+  -- the word before a sample of the phrase
   past_sample : after word phrase (token_of word ∷ reads.sample) reads.sample_value
   past_sample = (token_of word, reads.sample, refl, refl, reads.sampled)
 
+  -- it is stuck at the word, or behind it where the reader is
   past_stuck : (ts bad : List Token) → past word reader ts ≡ Err bad → Stuck (past word reader) (after word phrase) ts bad
   past_stuck [] bad e =
       stuck_here (past word reader) (after word phrase) [] bad _ _ (err_same A [] bad e) past_sample past_fails_nil
@@ -94,18 +103,23 @@ module _ {A B : Type 0} {first : Reader A} {phrase : Phrase A} {goes_on : Token 
   abbrev behind : A × List Token → Reading (A × B)
   behind x = second x.1 >>= paired x.0
 
+  -- behind what the first reader read the second one begins
   next_is : (ts : List Token) (a : A) (mid : List Token) → first ts ≡ Ok (a, mid) → (first next second) ts ≡ (second mid >>= paired a)
   next_is ts a mid e = ap (λ (r : Reading A). r >>= behind) e
 
+  -- where the first reader stands still, both do
   next_fails : (ts bad : List Token) → first ts ≡ Err bad → (first next second) ts ≡ Err bad
   next_fails ts bad e = ap (λ (r : Reading A). r >>= behind) e
 
+  -- what the second reader read makes the pair
   end_is : (a : A) (ts : List Token) (b : B) (rest : List Token) → second ts ≡ Ok (b, rest) → (second ts >>= paired a) ≡ Ok ((a, b), rest)
   end_is a ts b rest e = ap (λ (r : Reading B). r >>= paired a) e
 
+  -- where the second reader stands still, both do
   end_fails : (a : A) (ts bad : List Token) → second ts ≡ Err bad → (second ts >>= paired a) ≡ Err bad
   end_fails a ts bad e = ap (λ (r : Reading B). r >>= paired a) e
 
+  -- what both found, one behind the other
   next_found : (ts : List Token) (x : A × B) (rest : List Token) → (first next second) ts ≡ Ok (x, rest) → Found (first next second) (phrase and other_phrase) ts x rest
   next_found ts x rest e =
       let h = bind_ok (first ts) behind (x, rest) e in
@@ -135,6 +149,7 @@ module _ {A B : Type 0} {first : Reader A} {phrase : Phrase A} {goes_on : Token 
             ∙ ap (λ (z : A × B). Ok (z, other)) value;
       }
 
+  -- what the two phrases spell one behind the other is read
   next_only : (taken : List Token) (x : A × B) (rest : List Token) → (phrase and other_phrase) taken x → Stops other_goes_on rest → (first next second) (taken ++ rest) ≡ Ok (x, rest)
   next_only taken x rest spelled stops =
       ap (λ (l : List Token). (first next second) (l ++ rest)) spelled.2
@@ -142,6 +157,7 @@ module _ {A B : Type 0} {first : Reader A} {phrase : Phrase A} {goes_on : Token 
       ∙ next_is (spelled.0 ++ (spelled.1 ++ rest)) x.0 (spelled.1 ++ rest) (reads.only spelled.0 x.0 (spelled.1 ++ rest) spelled.3 (parts_there spelled.1 x.1 rest spelled.4 stops))
       ∙ end_is x.0 (spelled.1 ++ rest) x.1 rest (others.only spelled.1 x.1 rest spelled.4 stops)
 
+  -- both are stuck where the first is, or behind it where the second is
   next_stuck : (ts bad : List Token) → (first next second) ts ≡ Err bad → Stuck (first next second) (phrase and other_phrase) ts bad
   next_stuck ts bad e = elim (bind_err (first ts) behind bad e) [
     | inl is ↦ (

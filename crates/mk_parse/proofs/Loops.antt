@@ -29,19 +29,23 @@ pub record Going {A : Type 0} (test : Token → Bool) (reader : Reader A) (front
   pub rest : behind front (repeats test reader fuel ts) ≡ total
 
 module _ {A : Type 0} (test : Token → Bool) (reader : Reader A) where
+  -- one item more before the others is one item more behind those so far
   one_more : (front : List A) (a : A) (r : Reading (List A)) → behind front (r >>= (λ y. read (List A) (a ∷ y.0, y.1))) ≡ behind (front ++ a ∷ []) r
   one_more front a (Ok x) = ap (λ (l : List A). read (List A) (l, x.1)) (sym (append_assoc front (a ∷ []) x.0))
   one_more front a (Err bad) = refl
 
+  -- where the test passes, one turn is one item and then the others
   turn_is : (n : ℕ) (ts : List Token) → starts test ts ≡ true → repeats test reader (suc n) ts ≡ (reader ts >>= (λ x. repeats test reader n x.1 >>= (λ y. read (List A) (x.0 ∷ y.0, y.1))))
   unfolding repeats
   turn_is n ts e = ap (λ (b : Bool). cond b (reader ts >>= (λ x. repeats test reader n x.1 >>= (λ y. read (List A) (x.0 ∷ y.0, y.1)))) (Ok ([], ts))) e
 
+  -- where it fails, the loop ends with no item
   stop_is : (n : ℕ) (ts : List Token) → starts test ts ≡ false → repeats test reader n ts ≡ Ok ([], ts)
   unfolding repeats
   stop_is zero ts e = refl
   stop_is (suc n) ts e = ap (λ (b : Bool). cond b (reader ts >>= (λ x. repeats test reader n x.1 >>= (λ y. read (List A) (x.0 ∷ y.0, y.1)))) (Ok ([], ts))) e
 
+  -- one turn, by how many are left
   turn_by : (n : ℕ) (front : List A) (ts : List Token) (a : A) (mid : List Token) (total : Reading (List A)) → length ts ≤ n → behind front (repeats test reader n ts) ≡ total
       → starts test ts ≡ true → reader ts ≡ Ok (a, mid) → length mid < length ts → Going test reader (front ++ a ∷ []) mid total
   turn_by zero front [] a mid total le e some is short = absurd (omega (arith, short))
@@ -65,6 +69,7 @@ module _ {A : Type 0} (test : Token → Bool) (reader : Reader A) where
   going_end front ts total going none =
       sym going.rest ∙ ap (behind front) (stop_is going.fuel ts none) ∙ ap (λ (l : List A). read (List A) (l, ts)) (append-nil front)
 
+  -- a turn that stands still, by how many are left
   stuck_by : (n : ℕ) (front : List A) (ts bad : List Token) (total : Reading (List A)) → length ts ≤ n → behind front (repeats test reader n ts) ≡ total
       → starts test ts ≡ true → reader ts ≡ Err bad → total ≡ Err bad
   stuck_by zero front [] bad total le e some is = absurd (let wrong = some in cc)
@@ -86,6 +91,7 @@ passed_on Memory new first total stuck h = tt
 -- ---- the first value, and the others
 
 module _ {A : Type 0} (symbol : List ℕ) (reader : Reader A) where
+  -- the first value and the others by two steps or by one
   read_on : (a : A) (r : Reading (List A)) → ((r >>= (λ y. read (A × List A) ((a, y.0), y.1))) >>= (λ z. read (List A) (z.0.0 ∷ z.0.1, z.1))) ≡ (r >>= (λ y. read (List A) (a ∷ y.0, y.1)))
   read_on a (Ok x) = refl
   read_on a (Err bad) = refl
@@ -104,6 +110,7 @@ module _ {A : Type 0} (f : List A → A) (symbol : List ℕ) (reader : Reader A)
   abbrev whole : A × List Token → Reading A
   whole x = (every (says symbol) (past symbol reader) x.1 >>= (λ y. read (A × List A) ((x.0, y.0), y.1))) >>= (λ z. read (List A) (z.0.0 ∷ z.0.1, z.1)) >>= (λ w. read A (several f w.0, w.1))
 
+  -- what is made of a list that was read or not
   several_by : (r : Reading A)
       → (((r >>= (λ x. every (says symbol) (past symbol reader) x.1 >>= (λ y. read (A × List A) ((x.0, y.0), y.1)))) >>= (λ z. read (List A) (z.0.0 ∷ z.0.1, z.1))) >>= (λ w. read A (several f w.0, w.1)))
       ≡ (r >>= whole)
@@ -114,6 +121,7 @@ module _ {A : Type 0} (f : List A → A) (symbol : List ℕ) (reader : Reader A)
   pub several_stuck : (ts bad : List Token) → reader ts ≡ Err bad → makes (several f) (parted symbol reader) ts ≡ Err bad
   several_stuck ts bad e = several_by (reader ts) ∙ ap (λ (r : Reading A). r >>= whole) e
 
+  -- a first part that was read, and what the others make of it
   several_is : (ts : List Token) (a : A) (mid : List Token) → reader ts ≡ Ok (a, mid)
       → makes (several f) (parted symbol reader) ts ≡ (makes (λ xs. a ∷ xs) (every (says symbol) (past symbol reader)) mid >>= (λ w. read A (several f w.0, w.1)))
   several_is ts a mid e =
@@ -131,6 +139,7 @@ module _ {A : Type 0} (f : List A → A) (symbol : List ℕ) (reader : Reader A)
       several_is ts a mid e
       ∙ ap (λ (r : Reading (List A)). (r >>= (λ y. read (List A) (a ∷ y.0, y.1))) >>= (λ w. read A (several f w.0, w.1))) (stop_is (says symbol) (past symbol reader) (length mid) mid none)
 
+  -- where a symbol follows, there is at least one part more
   some_by : (n : ℕ) (mid : List Token) (xs : List A) (rest : List Token) → length mid ≤ n → starts (says symbol) mid ≡ true → repeats (says symbol) (past symbol reader) n mid ≡ Ok (xs, rest)
       → (b : A) × (ys : List A) × (xs ≡ b ∷ ys)
   some_by zero [] xs rest le some e = absurd (let wrong = some in cc)

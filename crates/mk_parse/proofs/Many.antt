@@ -21,15 +21,18 @@ module _ {A : Type 0} (test : Token → Bool) (more : Token → Bool)
   abbrev turn : ℕ → A × List Token → Reading (List A)
   turn n x = repeats test reader n x.1 >>= joined x.0
 
+  -- where the test passes, a turn is read
   turn_is : (n : ℕ) (ts : List Token) → starts test ts ≡ true → repeats test reader (suc n) ts ≡ (reader ts >>= turn n)
   unfolding repeats
   turn_is n ts e = ap (λ (b : Bool). cond b (reader ts >>= turn n) (Ok ([], ts))) e
 
+  -- where it fails, none is
   stop_is : (n : ℕ) (ts : List Token) → starts test ts ≡ false → repeats test reader n ts ≡ Ok ([], ts)
   unfolding repeats
   stop_is zero ts e = refl
   stop_is (suc n) ts e = ap (λ (b : Bool). cond b (reader ts >>= turn n) (Ok ([], ts))) e
 
+  -- one part and the others that were read behind it
   turned : (n : ℕ) (ts : List Token) (a : A) (mid : List Token) (xs : List A) (rest : List Token) → starts test ts ≡ true → reader ts ≡ Ok (a, mid)
       → repeats test reader n mid ≡ Ok (xs, rest) → repeats test reader (suc n) ts ≡ Ok (a ∷ xs, rest)
   turned n ts a mid xs rest e is others =
@@ -42,17 +45,20 @@ module _ {A : Type 0} (test : Token → Bool) (more : Token → Bool)
       let same : length (taken ++ rest) ≡ length ((h.0 ∷ h.1) ++ rest) = ap (λ (l : List Token). length (l ++ rest)) h.2 in
       omega (arith, same, length-append (h.0 ∷ h.1) rest, le)
 
+  -- a part has at least one token, so that there is one where tokens are left
   no_room : (taken : List Token) (a : A) (rest : List Token) → phrase taken a → length (taken ++ rest) ≤ 0 → ⊥
   no_room taken a rest spelled le =
       let h = begins taken a spelled in
       let same : length (taken ++ rest) ≡ length ((h.0 ∷ h.1) ++ rest) = ap (λ (l : List Token). length (l ++ rest)) h.2 in
       omega (arith, same, length-append (h.0 ∷ h.1) rest, le)
 
+  -- a part passes the test, whatever stands behind it
   begins_so : (taken : List Token) (a : A) (rest : List Token) → phrase taken a → starts test (taken ++ rest) ≡ true
   begins_so taken a rest spelled =
       let h = begins taken a spelled in
       ap (λ (l : List Token). starts test (l ++ rest)) h.2 ∙ h.3
 
+  -- what follows a list stops each of its parts
   stops_before : (back : List Token) (xs : List A) (rest : List Token) → many phrase back xs → Stops more rest → Stops goes_on (back ++ rest)
   stops_before back [] rest h s = subst (λ (l : List Token). Stops goes_on (l ++ rest)) (sym h) (stops_weaker more goes_on stop rest s)
   stops_before back (a ∷ xs) rest h s =
@@ -60,10 +66,12 @@ module _ {A : Type 0} (test : Token → Bool) (more : Token → Bool)
       let same : back ≡ (b.0 ∷ b.1) ++ h.1 = h.2 ∙ ap (λ (l : List Token). l ++ h.1) b.2 in
       subst (λ (l : List Token). Stops goes_on (l ++ rest)) (sym same) (test_stops b.0 b.3)
 
+  -- what stops the list fails the test
   stops_test : (rest : List Token) → Stops more rest → starts test rest ≡ false
   stops_test [] s = refl
   stops_test (t ∷ ts) s = more_stops t s
 
+  -- a list that is spelled is read, by how many tokens are left
   repeats_only : (n : ℕ) (xs : List A) (taken rest : List Token) → many phrase taken xs → Stops more rest → length (taken ++ rest) ≤ n
       → repeats test reader n (taken ++ rest) ≡ Ok (xs, rest)
   repeats_only n [] taken rest h s le =
@@ -84,6 +92,7 @@ module _ {A : Type 0} (test : Token → Bool) (more : Token → Bool)
     pub spelled : many phrase taken xs
     pub again : (n : ℕ) (other : List Token) → SameHead rest other → length (taken ++ other) ≤ n → repeats test reader n (taken ++ other) ≡ Ok (xs, other)
 
+  -- no part was found
   listed_none : (ts : List Token) (xs : List A) (rest : List Token) → starts test ts ≡ false → [] ≡ xs → ts ≡ rest → Listed ts xs rest
   listed_none ts xs rest e is same = record {
     taken = [];
@@ -111,6 +120,7 @@ module _ {A : Type 0} (test : Token → Bool) (more : Token → Bool)
             ap (repeats test reader n) whole ∙ once n found.taken (others.taken ++ other) other s found.spelled (found.again (others.taken ++ other) heads) (λ m. others.again m other s) fits;
       }
     where
+      -- one turn, where the bound has room for it
       once : (n : ℕ) (taken mid other : List Token) → SameHead rest other → phrase taken a → reader (taken ++ mid) ≡ Ok (a, mid)
           → ((m : ℕ) → length mid ≤ m → repeats test reader m mid ≡ Ok (xs, other)) → length (taken ++ mid) ≤ n
           → repeats test reader n (taken ++ mid) ≡ Ok (a ∷ xs, other)
@@ -118,6 +128,7 @@ module _ {A : Type 0} (test : Token → Bool) (more : Token → Bool)
       once (suc m) taken mid other s spelled is others fits =
           turned m (taken ++ mid) a mid xs other (begins_so taken a mid spelled) is (others m (shorter taken a mid m spelled fits))
 
+  -- what the turns found, by how many tokens are left
   repeats_found : (n : ℕ) (ts : List Token) (xs : List A) (rest : List Token) → length ts ≤ n → repeats test reader n ts ≡ Ok (xs, rest) → Listed ts xs rest
   unfolding repeats
   repeats_found zero [] xs rest le e =
@@ -148,6 +159,7 @@ module _ {A : Type 0} (test : Token → Bool) (more : Token → Bool)
     pub completed : many phrase (taken ++ added) value
     pub again : (n : ℕ) (other : List Token) → SameHead bad other → length (taken ++ other) ≤ n → repeats test reader n (taken ++ other) ≡ Err other
 
+  -- a turn is stuck in its first part
   halted_here : (ts bad : List Token) → starts test ts ≡ true → reader ts ≡ Err bad → Halted ts bad
   halted_here ts bad some is =
       let stuck = reads.stuck ts bad is in
@@ -162,11 +174,13 @@ module _ {A : Type 0} (test : Token → Bool) (more : Token → Bool)
             once n (stuck.taken ++ other) other begun (stuck.again other s) le;
       }
     where
+      -- one turn, where the bound has room for it
       once : (n : ℕ) (us other : List Token) → starts test us ≡ true → reader us ≡ Err other → length us ≤ n → repeats test reader n us ≡ Err other
       once zero [] other begun fails le = absurd (let e = begun in cc)
       once zero (u ∷ us) other begun fails le = absurd (omega (arith, le))
       once (suc n) us other begun fails le = turn_is n us begun ∙ ap (λ (r : Reading A). r >>= turn n) fails
 
+  -- a turn is stuck in a later part
   halted_later : (ts : List Token) (a : A) (mid bad : List Token) → starts test ts ≡ true → reader ts ≡ Ok (a, mid) → Halted mid bad → Halted ts bad
   halted_later ts a mid bad some is others =
       let found = reads.found ts a mid is in
@@ -184,6 +198,7 @@ module _ {A : Type 0} (test : Token → Bool) (more : Token → Bool)
             ap (repeats test reader n) whole ∙ once n found.taken (others.taken ++ other) other found.spelled (found.again (others.taken ++ other) heads) (λ m. others.again m other s) fits;
       }
     where
+      -- one turn, where the bound has room for it
       once : (n : ℕ) (taken mid other : List Token) → phrase taken a → reader (taken ++ mid) ≡ Ok (a, mid)
           → ((m : ℕ) → length mid ≤ m → repeats test reader m mid ≡ Err other) → length (taken ++ mid) ≤ n
           → repeats test reader n (taken ++ mid) ≡ Err other
@@ -192,6 +207,7 @@ module _ {A : Type 0} (test : Token → Bool) (more : Token → Bool)
           turn_is m (taken ++ mid) (begins_so taken a mid spelled) ∙ ap (λ (r : Reading A). r >>= turn m) is
           ∙ ap (λ (r : Reading (List A)). r >>= joined a) (others m (shorter taken a mid m spelled fits))
 
+  -- where the turns are stuck, by how many tokens are left
   repeats_stuck : (n : ℕ) (ts bad : List Token) → length ts ≤ n → repeats test reader n ts ≡ Err bad → Halted ts bad
   unfolding repeats
   repeats_stuck zero ts bad le e = absurd cc
@@ -239,9 +255,11 @@ module _ {A : Type 0} (test : Token → Bool) (more : Token → Bool)
 module _ {A : Type 0} (symbol : List ℕ) (more : Token → Bool) {reader : Reader A} {phrase : Phrase A} {goes_on : Token → Bool} (reads : Reads reader phrase goes_on)
     (stop : (t : Token) → more t ≡ false → goes_on t ≡ false) (more_stops : (t : Token) → more t ≡ false → says symbol t ≡ false)
     (symbol_stops : (t : Token) → says symbol t ≡ true → goes_on t ≡ false) where
+  -- the parts behind the first, each behind its symbol
   others_read : Reads (every (says symbol) (past symbol reader)) (many (after symbol phrase)) more
   others_read = reads_many (says symbol) more (reads_after symbol reads) (after_begins symbol phrase) stop more_stops symbol_stops
 
+  -- what follows the list stops its first part
   stops_at : (back : List Token) (xs : List A) (rest : List Token) → many (after symbol phrase) back xs → Stops more rest → Stops goes_on (back ++ rest)
   stops_at back [] rest h s = subst (λ (l : List Token). Stops goes_on (l ++ rest)) (sym h) (stops_weaker more goes_on stop rest s)
   stops_at back (a ∷ xs) rest h s =
@@ -256,20 +274,25 @@ module _ {A : Type 0} (symbol : List ℕ) (more : Token → Bool) {reader : Read
 -- the phrase, or no token
 module _ {A : Type 0} (test : Token → Bool) (more : Token → Bool) {reader : Reader A} {phrase : Phrase A} {goes_on : Token → Bool} (reads : Reads reader phrase goes_on)
     (begins : BeginsBy test phrase) (stop : (t : Token) → more t ≡ false → goes_on t ≡ false) (more_stops : (t : Token) → more t ≡ false → test t ≡ false) where
+  -- where nothing is spelled, what follows fails the test
   apart : (back : List Token) (b : Option A) (rest : List Token) → empty {A = Option A} None back b → Stops more rest → starts test (back ++ rest) ≡ false
   apart back b rest h s = ap (λ (l : List Token). starts test (l ++ rest)) h.0 ∙ none rest s
     where
+      -- what stops the phrase fails the test
       none : (rest : List Token) → Stops more rest → starts test rest ≡ false
       none [] s = refl
       none (t ∷ ts) s = more_stops t s
 
+  -- a phrase that is there passes the test
   some_begins : BeginsBy test (made {B = Option A} Some phrase)
   some_begins ts o spelled = begins ts spelled.0 spelled.1
 
+  -- the phrase or no token is what may be left out
   optional_to : (ts : List Token) (o : Option A) → (made {B = Option A} Some phrase or empty None) ts o → optional phrase ts o
   optional_to ts o (inl h) = subst (optional phrase ts) (sym h.2) h.1
   optional_to ts o (inr h) = subst (optional phrase ts) (sym h.1) h.0
 
+  -- and the other way round
   optional_from : (ts : List Token) (o : Option A) → optional phrase ts o → (made {B = Option A} Some phrase or empty None) ts o
   optional_from ts None h = inr (h, refl)
   optional_from ts (Some a) h = inl (a, h, refl)
@@ -285,14 +308,17 @@ module _ {A : Type 0} {reader : Reader A} {phrase : Phrase A} {goes_on : Token �
   all_only ts a spelled =
       ap finished (ap reader (sym (append-nil ts)) ∙ reads.only ts a [] spelled tt)
 
+  -- all tokens were taken where the reading is finished
   none_left : (a : A) (rest : List Token) (b : A) → with_none_left a rest ≡ Ok b → (rest ≡ []) × (a ≡ b)
   none_left a [] b e = (refl, cc)
   none_left a (t ∷ ts) b e = absurd cc
 
+  -- tokens are left where the reading stands still behind a value
   some_left : (a : A) (rest bad : List Token) → with_none_left a rest ≡ Err bad → (t : Token) × (ts : List Token) × (rest ≡ t ∷ ts) × (rest ≡ bad)
   some_left a [] bad e = absurd cc
   some_left a (t ∷ ts) bad e = (t, ts, refl, cc)
 
+  -- the phrase of all tokens, by what the reader answered
   all_found_by : (r : Reading A) (ts : List Token) (a : A) → reader ts ≡ r → finished r ≡ Ok a → phrase ts a
   all_found_by (Err bad) ts a is e = absurd cc
   all_found_by (Ok x) ts a is e =
@@ -319,6 +345,7 @@ module _ {A : Type 0} {reader : Reader A} {phrase : Phrase A} {goes_on : Token �
     pub completed : phrase (taken ++ more) value
     pub dead : IsDead taken bad
 
+  -- where every list that begins so stands still, no phrase begins so
   dead_by : (taken bad : List Token) → ((other : List Token) → SameHead bad other → finished (reader (taken ++ other)) ≡ Err other) → IsDead taken bad
   dead_by taken [] fails = λ a spelled.
       let e = sym (all_only taken a spelled) ∙ ap (λ (l : List Token). finished (reader l)) (sym (append-nil taken)) ∙ fails [] tt in
@@ -328,10 +355,12 @@ module _ {A : Type 0} {reader : Reader A} {phrase : Phrase A} {goes_on : Token �
       ∙ ap (λ (l : List Token). finished (reader l)) (append_assoc taken (t ∷ []) more) ∙ fails (t ∷ more) refl in
       absurd cc
 
+  -- a value with tokens behind it stands still at them
   left_over : (a : A) (t : Token) (ts other : List Token) → SameHead (t ∷ ts) other → with_none_left a other ≡ Err other
   left_over a t ts [] s = absurd s
   left_over a t ts (u ∷ us) s = refl
 
+  -- where all tokens are refused, by what the reader answered
   all_stuck_by : (r : Reading A) (ts bad : List Token) → reader ts ≡ r → finished r ≡ Err bad → AllStuck ts bad
   all_stuck_by (Err b) ts bad is e =
       let same : b ≡ bad = cc in

@@ -141,6 +141,7 @@ given_err {A = A} None t ts bad e = (refl, err_same A (t ∷ ts) bad e)
 module _ {A : Type 0} (value : Token → Option A) (Gives : Token → A → Type 0)
     (sound : (t : Token) (a : A) → value t ≡ Some a → Gives t a)
     (complete : (t : Token) (a : A) → Gives t a → value t ≡ Some a) where
+  -- the one token that was taken gives the value
   token_found : (ts : List Token) (a : A) (rest : List Token) → takes value ts ≡ Ok (a, rest) → Found (takes value) (one Gives) ts a rest
   token_found [] a rest e = absurd cc
   token_found (t ∷ ts) a rest e =
@@ -152,18 +153,22 @@ module _ {A : Type 0} (value : Token → Option A) (Gives : Token → A → Type
         again = λ other s. ap (given t other) h.0;
       }
 
+  -- a token that gives a value is read
   token_only : (taken : List Token) (a : A) (rest : List Token) → one Gives taken a → takes value (taken ++ rest) ≡ Ok (a, rest)
   token_only taken a rest spelled =
       ap (λ (u : List Token). takes value (u ++ rest)) spelled.1 ∙ ap (given spelled.0 rest) (complete spelled.0 a spelled.2)
 
+  -- one that gives none is refused, whatever stands behind it
   token_fails : (t : Token) (ts other : List Token) → value t ≡ None → SameHead (t ∷ ts) other → takes value other ≡ Err other
   token_fails t ts [] none s = absurd s
   token_fails t ts (u ∷ us) none s = ap (given u us) (ap value (sym s) ∙ none)
 
+  -- and so is no token
   token_fails_nil : (other : List Token) → SameHead [] other → takes value other ≡ Err other
   token_fails_nil [] s = refl
   token_fails_nil (u ∷ us) s = absurd s
 
+  -- the reader of one token is stuck at the first token
   token_stuck : (sample : Token) (a : A) → Gives sample a → (ts bad : List Token) → takes value ts ≡ Err bad → Stuck (takes value) (one Gives) ts bad
   token_stuck sample a gives [] bad e =
       stuck_here (takes value) (one Gives) [] bad (sample ∷ []) a (err_same A [] bad e) (sample, refl, gives) token_fails_nil
@@ -184,6 +189,7 @@ module _ {A : Type 0} (value : Token → Option A) (Gives : Token → A → Type
 
 -- what is made of what is read
 module _ {A B : Type 0} (f : A → B) {reader : Reader A} {phrase : Phrase A} {goes_on : Token → Bool} (reads : Reads reader phrase goes_on) where
+  -- what was found gives what is made of it
   makes_found : (ts : List Token) (b : B) (rest : List Token) → makes f reader ts ≡ Ok (b, rest) → Found (makes f reader) (made f phrase) ts b rest
   makes_found ts b rest e =
       let h = bind_ok (reader ts) (λ x. Ok (f x.0, x.1)) (b, rest) e in
@@ -199,10 +205,12 @@ module _ {A B : Type 0} (f : A → B) {reader : Reader A} {phrase : Phrase A} {g
             ∙ ap (λ (v : B). Ok (v, other)) value;
       }
 
+  -- what the phrase spells is read, and the function made of it
   makes_only : (taken : List Token) (b : B) (rest : List Token) → made f phrase taken b → Stops goes_on rest → makes f reader (taken ++ rest) ≡ Ok (b, rest)
   makes_only taken b rest spelled stops =
       ap (λ (r : Reading A). r >>= (λ x. Ok (f x.0, x.1))) (reads.only taken spelled.0 rest spelled.1 stops) ∙ ap (λ (v : B). Ok (v, rest)) (sym spelled.2)
 
+  -- it is stuck where the reader is
   makes_stuck : (ts bad : List Token) → makes f reader ts ≡ Err bad → Stuck (makes f reader) (made f phrase) ts bad
   makes_stuck ts bad e = elim (bind_err (reader ts) (λ x. Ok (f x.0, x.1)) bad e) [
     | inl is ↦ (

@@ -111,6 +111,7 @@ module _ (text : List ℕ) (tokens : List Token) (end : Place) (whole : Bool) (l
         stuck = nothing_fits taken t stands.behind (t.text ++ stands.behind) refl stands.is_token dead;
       }
 
+  -- no program is spelled by tokens behind which none goes on
   no_program : (taken bad : List Spelled) → map (seen text) tokens ≡ taken ++ bad → IsDead reads_program taken bad → (q : Program) → program (map (seen text) tokens) q → ⊥
   no_program taken [] parts dead = λ q h. dead q (subst (λ (ts : List Spelled). program ts q) (parts ∙ append-nil taken) h)
   no_program taken (t ∷ ts) parts dead = λ q h. dead ts q (subst (λ (us : List Spelled). program us q) (parts ∙ sym (append_assoc taken (t ∷ []) ts)) h)

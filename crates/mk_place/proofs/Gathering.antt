@@ -197,6 +197,7 @@ module _ (s : Values) (is : IsValues s) (v at : ℕ) (row : List ℕ) (p : Opera
   next : IsTurn (inputs s) v at (uses s)
   next = turn (inputs s) v (uses s) at below
 
+  -- the position looked at is that of the use of this turn
   next-same : p ≡ place_of_use next.here
   next-same = p_is ∙ next.at
 

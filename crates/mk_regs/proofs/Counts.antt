@@ -15,12 +15,15 @@ one_if b = if b then 1 else 0
 abbrev pub without : (ℕ → Bool) → ℕ → ℕ → Bool
 without test q p = if nat_eq p q then false else test p
 
+-- other numbers pass as before
 pub without-other : (test : ℕ → Bool) (q p : ℕ) → p ≢ q → without test q p ≡ test p
 without-other test q p other = ap (λ (b : Bool). if b then false else test p) (ne_eqb p q other)
 
+-- q itself doesn't pass
 pub without-there : (test : ℕ → Bool) (q : ℕ) → without test q q ≡ false
 without-there test q = ap (λ (b : Bool). if b then false else test q) (eq-eqb q q refl)
 
+-- what passes is another number that passed before
 pub without-passes : (test : ℕ → Bool) (q p : ℕ) → without test q p ≡ true → (p ≢ q) × (test p ≡ true)
 without-passes test q p passes = elim (cases_eq p q) [
   | inl same ↦ absurd (false≢true (sym (ap (λ (b : Bool). if b then false else test p) (eq-eqb p q same)) ∙ passes))
@@ -92,6 +95,7 @@ count-held [] n test stands = omega (arith, count-none n test (λ p below. fails
   ]
 count-held (None ∷ hs) n test stands =
     omega (arith, count-held hs n test (λ p below passes. behind p (stands p below passes).0 (stands p below passes).1)) where
+      -- an entry that is held, and not by the first register, which holds nothing, is held by one of the others
       behind : (p r : ℕ) → holding (None ∷ hs) r ≡ Some p → (s : ℕ) × (holding hs s ≡ Some p)
       behind p zero e = absurd (none-some p e)
       behind p (suc r) e = (r, e)
@@ -103,6 +107,7 @@ count-held (Some q ∷ hs) n test stands =
           let both = without-passes test q p passes in
           behind p (stands p below both.1).0 both.0 (stands p below both.1).1),
     ) where
+      -- an entry that is held and isn't that of the first register is held by one of the others
       behind : (p r : ℕ) → p ≢ q → holding (Some q ∷ hs) r ≡ Some p → (s : ℕ) × (holding hs s ≡ Some p)
       behind p zero other e = absurd (other (sym (same_Some q p e)))
       behind p (suc r) other e = (r, e)

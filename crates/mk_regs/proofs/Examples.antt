@@ -12,10 +12,12 @@ unfoldable none_pass : ℕ → (ℕ → Bool) → Bool
 none_pass zero test = true
 none_pass (suc n) test = not (test n) && none_pass n test
 
+-- what fails where its contrary holds
 not-true : (b : Bool) → not b ≡ true → b ≡ false
 not-true true e = cc
 not-true false e = refl
 
+-- where no number passes, each fails
 none-at : (n : ℕ) (test : ℕ → Bool) → none_pass n test ≡ true → (s : ℕ) → s < n → test s ≡ false
 unfolding none_pass
 none-at zero test none s below = absurd (omega arith)

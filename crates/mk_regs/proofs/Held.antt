@@ -1,15 +1,25 @@
 -- What registers hold: on entry, and behind a write.
-use Rattle.std.proofs.Common.{◌≡◌, ◌≢◌, ◌⊎◌, ℕ, ◌+◌, ◌<◌, ◌≤◌, List, Option, Some, None, length, set, nat_lt, if◌then◌else◌, inl, inr, refl, sym, ◌∙◌, ap, arith, get_or-set_other, get_or-set_same}
+use Rattle.std.proofs.Common.{Bool, ◌≡◌, ◌≢◌, ◌⊎◌, ℕ, ◌+◌, ◌<◌, ◌≤◌, List, Option, Some, None, length, set, nat_lt, if◌then◌else◌, inl, inr, refl, sym, ◌∙◌, ap, arith, get_or-set_other, get_or-set_same}
 use Rattle.std.specs.List.{range_with_len}
-use Rattle.std.proofs.lemmas.Bool.{cases_Bool, cases_eq, ltb-true, ltb-false}
+use Rattle.std.proofs.lemmas.Bool.{eq-eqb, ne_eqb, cases_Bool, cases_eq, ltb-true, ltb-false}
 use Rattle.std.proofs.lemmas.List.{length-map, length-set, get_or-map, get_or_past}
 use Rattle.std.proofs.lemmas.List.FromFn.{length-range_with_len, get_or-range_with_len}
 use Rattle.std.proofs.lemmas.Option.{same_Some, none-some}
+use Rattle.mk_regs.specs.declared.renamer.TheConstants.{NOTHING}
 use Rattle.mk_regs.specs.Renaming.{holding, held_on_entry}
+use Rattle.mk_regs.specs.Renamer.{held_by}
 
 -- what a register holds on entry
 abbrev pub on_entry : ℕ → ℕ → Option ℕ
 on_entry entries r = if nat_lt r entries then Some r else None
+
+-- a number below that for nothing is a position
+pub held_by-number : (p : ℕ) → p < NOTHING → held_by p ≡ Some p
+held_by-number p below = ap (λ (b : Bool). if b then None else Some p) (ne_eqb p NOTHING (λ e. absurd (omega (arith, below, e))))
+
+-- the number for nothing is none
+pub held_by-nothing : held_by NOTHING ≡ None
+held_by-nothing = ap (λ (b : Bool). if b then None else Some NOTHING) (eq-eqb NOTHING NOTHING refl)
 
 -- as many registers as stated
 pub held-length : (entries registers : ℕ) → length (held_on_entry entries registers) ≡ registers
@@ -40,6 +50,7 @@ holds-within held r p holds = elim (cases_lt r (length held)) [
 pub holding-set : (held : List (Option ℕ)) (to p : ℕ) → to < length held → holding (set held to (Some p)) to ≡ Some p
 holding-set held to p there = get_or-set_same held to (Some p) None there
 
+-- what another register holds stays
 pub holding-other : (held : List (Option ℕ)) (to p r : ℕ) → r ≢ to → holding (set held to (Some p)) r ≡ holding held r
 holding-other held to p r other = get_or-set_other held to r (Some p) None other
 
@@ -55,6 +66,7 @@ entry-holds entries r p holds = elim (cases_Bool (nat_lt r entries)) [
   | inr past ↦ absurd (none-some p (sym (ap (λ (b : _). if b then Some r else None) past) ∙ holds))
 ]
 
+-- what a register holds on entry has the number of the register and is an input
 pub held-entry : (entries registers r p : ℕ) → holding (held_on_entry entries registers) r ≡ Some p → (p ≡ r) × (r < entries)
 held-entry entries registers r p holds =
     let there : r < registers = omega (arith, holds-within (held_on_entry entries registers) r p holds, held-length entries registers) in

@@ -52,6 +52,7 @@ mark-length reader last q = elim (cases_Bool (nat_eq (slice_index last q) 0)) [
   | inr some ↦ ap (λ (b : Bool). length (if b then set last q reader else last)) some
 ]
 
+-- nor do marks of several entries change the number of entries
 pub marks-length : (reader : ℕ) (last qs : List ℕ) → length (fold (marked reader) last qs) ≡ length last
 marks-length reader last [] = refl
 marks-length reader last (q ∷ qs) = marks-length reader (marked reader last q) qs ∙ mark-length reader last q
@@ -89,9 +90,11 @@ marks-at reader last (q ∷ qs) p positive there =
     marks-at reader next qs p positive rest
     ∙ ap (λ (v : ℕ). if is_among p qs then (if nat_eq v 0 then reader else v) else v) (mark-at reader last q p there.0)
     ∙ joined (nat_eq q p) (is_among p qs) (slice_index last p) where
+      -- a number that takes the reader's place where there is none
       filled : ℕ → ℕ
       filled v = if nat_eq v 0 then reader else v
 
+      -- a second mark by the same reader changes nothing
       twice : (v : ℕ) → (if nat_eq (if nat_eq v 0 then reader else v) 0 then reader else (if nat_eq v 0 then reader else v)) ≡ (if nat_eq v 0 then reader else v)
       twice v = elim (cases_Bool (nat_eq v 0)) [
         | inl none ↦ ap (λ (b : Bool). if nat_eq (if b then reader else v) 0 then reader else (if b then reader else v)) none
@@ -100,6 +103,7 @@ marks-at reader last (q ∷ qs) p positive there =
             ∙ ap (λ (b : Bool). if b then reader else v) some ∙ sym (ap (λ (b : Bool). if b then reader else v) some)
       ]
 
+      -- a mark of the first entry and then of the others is a mark of those among all
       joined : (a b : Bool) (v : ℕ)
           → (if b then (if nat_eq (if a then (if nat_eq v 0 then reader else v) else v) 0 then reader else (if a then (if nat_eq v 0 then reader else v) else v)) else (if a then (if nat_eq v 0 then reader else v) else v))
           ≡ (if a || b then (if nat_eq v 0 then reader else v) else v)
@@ -152,6 +156,7 @@ reads-step c later outs k v w p behind before (inl here) =
     ap (λ (b : Bool). b || is_read later outs p) here.0 ∙ sym (lt-ltb k w here.1)
 reads-step c later outs k v w p behind before (inr other) =
     ap (λ (b : Bool). b || is_read later outs p) other.0 ∙ behind ∙ shifted v before ∙ ap (nat_lt k) (sym other.1) where
+      -- a number that isn't the next reader's tells the same of this instruction and of the next
       shifted : (v : ℕ) → (v ≡ 0) ⊎ (k + 1 < v) → nat_lt (k + 1) v ≡ nat_lt k v
       shifted v (inl none) = le-ltb (k + 1) v (omega (arith, none)) ∙ sym (le-ltb k v (omega (arith, none)))
       shifted v (inr some) = lt-ltb (k + 1) v some ∙ sym (lt-ltb k v (omega (arith, some)))

@@ -10,7 +10,7 @@ use Rattle.mk_code.proofs.Totals.{total-same, Elements-take}
 use Rattle.mk_code.proofs.Encodings.{Elements-encodings}
 use Rattle.mk_regs.specs.declared.instr.RegInstr.{RegInstr}
 use Rattle.mk_regs.specs.Form.{RegListing, operation, entries_len, register_trace_len}
-use Rattle.mk_regs.specs.Renaming.{place, held_on_entry, stepped, renamed_instrs, renamed, IsRenamed}
+use Rattle.mk_regs.specs.Renaming.{position_in, held_on_entry, stepped, renamed_instrs, renamed, IsRenamed}
 use Rattle.mk_regs.specs.Trace.{register_randoms, masked_register_trace, register_ways, IsPrivateOverRegisters}
 use Rattle.mk_regs.specs.Laws.{RenamingLaws}
 use Rattle.mk_regs.proofs.Parts.{takes-with}
@@ -21,7 +21,7 @@ randoms-renamed : (held : List (Option ℕ)) (position : ℕ) (is : List RegInst
 unfolding randoms renamed_instrs
 randoms-renamed held position [] = refl
 randoms-renamed held position (i ∷ is) =
-    ap (λ (n : ℕ). n + randoms (renamed_instrs (stepped held position i) (position + 1) is)) (takes-with (place held) (operation i))
+    ap (λ (n : ℕ). n + randoms (renamed_instrs (stepped held position i) (position + 1) is)) (takes-with (position_in held) (operation i))
     ∙ ap (λ (n : ℕ). takes (operation i) + n) (randoms-renamed (stepped held position i) (position + 1) is)
 
 -- and are as many

@@ -11,7 +11,7 @@ use Rattle.mk_regs.specs.declared.instr.RegInstr.{RegInstr}
 use Rattle.mk_regs.specs.declared.instr.RegInstr.TheVariants.{Rnd}
 use Rattle.mk_regs.specs.declared.refusal.RegRefusal.{RegRefusal}
 use Rattle.mk_regs.specs.Form.{RegListing, IsRegListing, target, operation, operands, entries_len, HasParts}
-use Rattle.mk_regs.specs.Renaming.{place, held_on_entry, stepped, held_behind, held_at_end, renamed_instr, renamed_instrs, renamed, instr_refusal, out_refusal, outs_refusal, first_refusal, refusal_of}
+use Rattle.mk_regs.specs.Renaming.{position_in, held_on_entry, stepped, held_behind, held_at_end, renamed_instr, renamed_instrs, renamed, instr_refusal, out_refusal, outs_refusal, first_refusal, refusal_of}
 use Rattle.mk_regs.proofs.Parts.{operands-with, fits-from_parts, parts-with}
 use Rattle.mk_regs.proofs.Held.{IsTidy, tidy-entry, tidy-step}
 use Rattle.mk_regs.proofs.Running.{AreSet, Runs, runs-from_none}
@@ -75,6 +75,7 @@ renamed-step position held is i done below =
     ap (λ (cs : List Instr). done ++ cs) (at_drop_more (renamed_instrs held position) is i (Rnd 0) below)
     ∙ sym (append_assoc done (renamed_instr held x ∷ []) (renamed_instrs (stepped held position x) (position + 1) (drop (i + 1) is)))
 
+-- behind all instructions nothing more is renamed
 pub renamed-end : (position : ℕ) (held : List (Option ℕ)) (is : List RegInstr) (i : ℕ) (done : List Instr) → length is ≤ i
     → done ++ renamed_instrs held position (drop i is) ≡ done
 unfolding renamed_instrs
@@ -87,16 +88,17 @@ pub held-next : (position : ℕ) (held : List (Option ℕ)) (is : List RegInstr)
 unfolding held_behind
 held-next position held is i below = at_drop_more (held_behind held position) is i (Rnd 0) below
 
+-- behind all instructions what is held stays
 pub held-end : (position : ℕ) (held : List (Option ℕ)) (is : List RegInstr) (i : ℕ) → length is ≤ i → held_behind held position (drop i is) ≡ held
 unfolding held_behind
 held-end position held is i past = ap (held_behind held position) (drop_all i is past)
 
--- places of registers that hold entries are below the number of entries
-places-below : (held : List (Option ℕ)) (len : ℕ) (rs : List ℕ) → IsTidy held len → AreSet held rs → AllByRecursion (λ q. q < len) (map (place held) rs)
-places-below held len [] tidy sets = tt
-places-below held len (r ∷ rs) tidy sets =
-    let at : place held r ≡ sets.0.0 = ap (λ (o : Option ℕ). unwrap_or o 0) sets.0.1 in
-    (omega (arith, at, tidy.below r sets.0.0 sets.0.1), places-below held len rs tidy sets.1)
+-- the positions of the entries that registers hold are below the number of entries
+positions-below : (held : List (Option ℕ)) (len : ℕ) (rs : List ℕ) → IsTidy held len → AreSet held rs → AllByRecursion (λ q. q < len) (map (position_in held) rs)
+positions-below held len [] tidy sets = tt
+positions-below held len (r ∷ rs) tidy sets =
+    let at : position_in held r ≡ sets.0.0 = ap (λ (o : Option ℕ). unwrap_or o 0) sets.0.1 in
+    (omega (arith, at, tidy.below r sets.0.0 sets.0.1), positions-below held len rs tidy sets.1)
 
 -- the renamed instructions fit
 fits-renamed : (field : FieldId) (maps : ℕ) (held : List (Option ℕ)) (position : ℕ) (is : List RegInstr) (outs : List ℕ)
@@ -106,8 +108,8 @@ unfolding renamed_instrs Runs
 fits-renamed field maps held position [] outs tidy runs parts = tt
 fits-renamed field maps held position (i ∷ is) outs tidy runs parts =
     let below : AllByRecursion (λ q. q < position) (operands (renamed_instr held i)) =
-    subst (AllByRecursion (λ q. q < position)) (sym (operands-with (place held) (operation i))) (places-below held position (operands (operation i)) tidy runs.0.reads) in (
-      fits-from_parts field maps position (renamed_instr held i) (parts-with field maps (place held) (operation i) parts.0) below,
+    subst (AllByRecursion (λ q. q < position)) (sym (operands-with (position_in held) (operation i))) (positions-below held position (operands (operation i)) tidy runs.0.reads) in (
+      fits-from_parts field maps position (renamed_instr held i) (parts-with field maps (position_in held) (operation i) parts.0) below,
       fits-renamed field maps (stepped held position i) (position + 1) is outs (tidy-step held position (target i) tidy) runs.1 parts.1,
     )
 
@@ -138,9 +140,9 @@ renamed-fits r listing none =
       bytes = listing.bytes;
       few = omega (arith, long, listing.few);
       fit = fits-renamed r.field (length r.maps) held entries r.instrs r.outs (tidy-entry entries r.registers) runs listing.parts;
-      outs = all-by-index (trace_len (renamed r)) (map (place (held_at_end r)) r.outs)
-          (subst (λ (n : ℕ). AllByRecursion (λ q. q < n) (map (place (held_at_end r)) r.outs)) len
-          (places-below (held_at_end r) (entries + length r.instrs) r.outs
+      outs = all-by-index (trace_len (renamed r)) (map (position_in (held_at_end r)) r.outs)
+          (subst (λ (n : ℕ). AllByRecursion (λ q. q < n) (map (position_in (held_at_end r)) r.outs)) len
+          (positions-below (held_at_end r) (entries + length r.instrs) r.outs
           (tidy-behind held entries r.instrs (tidy-entry entries r.registers)) (runs-outs held entries r.instrs r.outs runs)));
-      outputs = (listing.outputs.0, listing.outputs.1, length-map r.outs (place (held_at_end r)) ∙ listing.outputs.2);
+      outputs = (listing.outputs.0, listing.outputs.1, length-map r.outs (position_in (held_at_end r)) ∙ listing.outputs.2);
     }

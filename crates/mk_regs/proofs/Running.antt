@@ -31,11 +31,13 @@ all-true test P holds (r ∷ rs) all = elim (cases_Bool (test r)) [
   | inr not_here ↦ absurd (false≢true (sym (ap (λ (b : Bool). b && list_all test rs) not_here) ∙ all))
 ]
 
+-- the other way: a test passes for each where it passes for all that has the property
 true-all : (test : ℕ → Bool) (P : ℕ → Type 0) → ((r : ℕ) → P r → test r ≡ true) → (rs : List ℕ) → AllByRecursion P rs → list_all test rs ≡ true
 true-all test P holds [] all = refl
 true-all test P holds (r ∷ rs) all =
     ap (λ (b : Bool). b && list_all test rs) (holds r all.0) ∙ true-all test P holds rs all.1
 
+-- a register whose content is there holds an entry
 some-set : (o : Option ℕ) → is_some o ≡ true → (p : ℕ) × (o ≡ Some p)
 some-set None none = absurd (false≢true none)
 some-set (Some p) one = (p, refl)
@@ -60,6 +62,7 @@ refusal-none held k named read none =
           ∙ ap (λ (b : Bool). if b then (if full then None else Some (Unset k)) else Some (Register k)) missing))
     ]
 
+-- the other way: registers that are there, of which those read hold entries, are not refused
 pub none-refusal : (held : List (Option ℕ)) (k : ℕ) (named read : List ℕ) → AreThere held named → AreSet held read
     → refusal_at held k named read ≡ None
 none-refusal held k named read there sets =
@@ -79,10 +82,12 @@ unfoldable pub Runs : List (Option ℕ) → ℕ → List RegInstr → List ℕ �
 Runs held position [] outs = AreSet held outs
 Runs held position (i ∷ is) outs = IsCarried held i × Runs (stepped held position i) (position + 1) is outs
 
+-- where the first of two refusals is none, neither is there
 none-both : (a b : Option RegRefusal) → option_or a b ≡ None → (a ≡ None) × (b ≡ None)
 none-both None b none = (refl, none)
 none-both (Some e) b none = absurd (none-some e (sym none))
 
+-- where neither is there, the first is none
 both-none : (a b : Option RegRefusal) → a ≡ None → b ≡ None → option_or a b ≡ None
 both-none a b left right = ap (λ (o : Option RegRefusal). option_or o b) left ∙ right
 
@@ -94,13 +99,16 @@ outs-none held k (r ∷ rs) none =
     let both = none-both (out_refusal held k r) (outs_refusal held k rs) none in
     ((refusal-none held k (r ∷ []) (r ∷ []) both.0).1.0, outs-none held k rs both.1)
 
+-- a register that holds an entry is there
 set-there : (held : List (Option ℕ)) (r : ℕ) → IsSet held r → r < length held
 set-there held r here = holds-within held r here.0 here.1
 
+-- so are several
 pub sets-there : (held : List (Option ℕ)) (rs : List ℕ) → AreSet held rs → AreThere held rs
 sets-there held [] sets = tt
 sets-there held (r ∷ rs) sets = (set-there held r sets.0, sets-there held rs sets.1)
 
+-- the other way: outs that hold entries are not refused
 pub none-outs : (held : List (Option ℕ)) (k : ℕ) (outs : List ℕ) → AreSet held outs → outs_refusal held k outs ≡ None
 unfolding outs_refusal
 none-outs held k [] sets = refl
@@ -114,6 +122,7 @@ instr-none held k i none =
     let both = refusal-none held k (target i ∷ operands (operation i)) (operands (operation i)) none in
     record { there = both.0.0; reads = both.1 }
 
+-- the other way: an instruction that can be carried out is not refused
 pub none-instr : (held : List (Option ℕ)) (k : ℕ) (i : RegInstr) → IsCarried held i → instr_refusal held k i ≡ None
 none-instr held k i carried =
     none-refusal held k (target i ∷ operands (operation i)) (operands (operation i))
@@ -131,6 +140,7 @@ runs-from_none entries k held (i ∷ is) outs none =
       subst (λ (n : ℕ). Runs (stepped held (entries + k) i) n is outs) e (runs-from_none entries (k + 1) (stepped held (entries + k) i) is outs both.1),
     )
 
+-- the other way: register code that runs is not refused
 pub none-from_runs : (entries k : ℕ) (held : List (Option ℕ)) (is : List RegInstr) (outs : List ℕ)
     → Runs held (entries + k) is outs → first_refusal entries k held is outs ≡ None
 unfolding first_refusal Runs

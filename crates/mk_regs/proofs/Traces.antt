@@ -10,7 +10,7 @@ use Rattle.mk_code.specs.Listing.{Listing}
 use Rattle.mk_code.specs.Trace.{entry, takes, run, trace}
 use Rattle.mk_regs.specs.declared.instr.RegInstr.{RegInstr}
 use Rattle.mk_regs.specs.Form.{RegListing, target, operation, operands, entries_len}
-use Rattle.mk_regs.specs.Renaming.{holding, place, held_on_entry, stepped, renamed_instr, renamed_instrs, IsRenamed}
+use Rattle.mk_regs.specs.Renaming.{holding, position_in, held_on_entry, stepped, renamed_instr, renamed_instrs, IsRenamed}
 use Rattle.mk_regs.specs.Trace.{register_run, contents_on_entry, register_trace}
 use Rattle.mk_regs.proofs.Parts.{entry-with, takes-with}
 use Rattle.mk_regs.proofs.Held.{IsTidy, tidy-entry, tidy-step, holding-set, holding-other, held-length, held-entry}
@@ -22,9 +22,9 @@ pub record Contains (held : List (Option ℕ)) (entries contents : List ℕ) : T
   pub tidy : IsTidy held (length entries)
   pub same : (r p : ℕ) → holding held r ≡ Some p → slice_index contents r ≡ slice_index entries p
 
--- what an operand has at its place
+-- the entry at the position that a register holds is what the register holds by value
 operands-same : (held : List (Option ℕ)) (entries contents : List ℕ) → Contains held entries contents → (rs : List ℕ) → AreSet held rs
-    → AllByRecursion (λ q. slice_index entries (place held q) ≡ slice_index contents q) rs
+    → AllByRecursion (λ q. slice_index entries (position_in held q) ≡ slice_index contents q) rs
 operands-same held entries contents has [] sets = tt
 operands-same held entries contents has (r ∷ rs) sets = (
   ap (λ (o : Option ℕ). slice_index entries (unwrap_or o 0)) sets.0.1 ∙ sym (has.same r sets.0.0 sets.0.1),
@@ -61,13 +61,13 @@ run-renamed field maps (i ∷ is) outs tape held entries contents has runs =
     let word = slice_index tape 0 in
     let a = entry field maps (operation i) word contents in
     let same : entry field maps c word entries ≡ a =
-    entry-with field maps (place held) (operation i) word entries contents (operands-same held entries contents has (operands (operation i)) runs.0.reads) in
+    entry-with field maps (position_in held) (operation i) word entries contents (operands-same held entries contents has (operands (operation i)) runs.0.reads) in
     let long : length entries + 1 ≡ length (entries ++ a ∷ []) = sym (length-append entries (a ∷ [])) in
     let next = stepped held (length entries) i in
     let behind : Runs next (length (entries ++ a ∷ [])) is outs = subst (λ (n : ℕ). Runs next n is outs) long runs.1 in
     ap (λ (b : ℕ). run field maps (renamed_instrs next (length entries + 1) is) (drop (takes c) tape) (entries ++ b ∷ [])) same
     ∙ ap (λ (n : ℕ). run field maps (renamed_instrs next n is) (drop (takes c) tape) (entries ++ a ∷ [])) long
-    ∙ ap (λ (n : ℕ). run field maps (renamed_instrs next (length (entries ++ a ∷ [])) is) (drop n tape) (entries ++ a ∷ [])) (takes-with (place held) (operation i))
+    ∙ ap (λ (n : ℕ). run field maps (renamed_instrs next (length (entries ++ a ∷ [])) is) (drop n tape) (entries ++ a ∷ [])) (takes-with (position_in held) (operation i))
     ∙ run-renamed field maps is outs (drop (takes (operation i)) tape) next (entries ++ a ∷ []) (set contents (target i) a)
     (contains-step held entries contents (target i) a runs.0.there has) behind
     ∙ append_assoc entries (a ∷ []) (register_run field maps is (drop (takes (operation i)) tape) (set contents (target i) a))

@@ -9,7 +9,7 @@ use Rattle.mk_code.specs.declared.instr.Instr.{Instr}
 use Rattle.mk_code.specs.Listing.{Listing, inputs_len}
 use Rattle.mk_regs.specs.declared.instr.RegInstr.{RegInstr}
 use Rattle.mk_regs.specs.Form.{RegListing, target, operation, operands, with_operands}
-use Rattle.mk_regs.specs.Renaming.{holding, place, held_on_entry, stepped, held_behind, renamed_instr, renamed_instrs, renamed}
+use Rattle.mk_regs.specs.Renaming.{holding, position_in, held_on_entry, stepped, held_behind, renamed_instr, renamed_instrs, renamed}
 use Rattle.mk_regs.specs.Width.{width}
 use Rattle.mk_regs.specs.Allocation.{IsLeastFree, GoLeast, IsAllocated}
 use Rattle.mk_regs.proofs.Parts.{parts-same, with_operands-back}
@@ -39,13 +39,14 @@ register_of-holds (Some q ∷ hs) r p holds = elim (cases_eq q p) [
   before (suc r) e other = (r, e)
 
 -- the register of a register's entry is that register
-back-at : (held : List (Option ℕ)) (len r : ℕ) → IsTidy held len → IsSet held r → register_of held (place held r) ≡ r
+back-at : (held : List (Option ℕ)) (len r : ℕ) → IsTidy held len → IsSet held r → register_of held (position_in held r) ≡ r
 back-at held len r tidy here =
-    let at : place held r ≡ here.0 = ap (λ (o : Option ℕ). unwrap_or o 0) here.1 in
+    let at : position_in held r ≡ here.0 = ap (λ (o : Option ℕ). unwrap_or o 0) here.1 in
     ap (register_of held) at ∙ tidy.one (register_of held here.0) r here.0 (register_of-holds held r here.0 here.1) here.1
 
+-- several registers are told by the positions of what they hold
 back-all : (held : List (Option ℕ)) (len : ℕ) (rs : List ℕ) → IsTidy held len → AreSet held rs
-    → AllByRecursion (λ q. register_of held (place held q) ≡ q) rs
+    → AllByRecursion (λ q. register_of held (position_in held q) ≡ q) rs
 back-all held len [] tidy sets = tt
 back-all held len (r ∷ rs) tidy sets = (back-at held len r tidy sets.0, back-all held len rs tidy sets.1)
 
@@ -59,6 +60,7 @@ one-least held later outs r s left right = omega (arith, not_below r s left righ
 head-same : {X : Type 0} (x y : X) (xs ys : List X) → x ∷ xs ≡ y ∷ ys → x ≡ y
 head-same x y xs ys e = cc
 
+-- the same of the rests
 tail-same : {X : Type 0} (x y : X) (xs ys : List X) → x ∷ xs ≡ y ∷ ys → xs ≡ ys
 tail-same x y xs ys e = cc
 
@@ -67,9 +69,9 @@ instr-same : (held : List (Option ℕ)) (len : ℕ) (i j : RegInstr) → IsTidy 
     → renamed_instr held i ≡ renamed_instr held j → target i ≡ target j → i ≡ j
 instr-same held len i j tidy left right same to =
     parts-same i j to
-    (sym (with_operands-back (place held) (register_of held) (operation i) (back-all held len (operands (operation i)) tidy left.reads))
+    (sym (with_operands-back (position_in held) (register_of held) (operation i) (back-all held len (operands (operation i)) tidy left.reads))
     ∙ ap (with_operands (register_of held)) same
-    ∙ with_operands-back (place held) (register_of held) (operation j) (back-all held len (operands (operation j)) tidy right.reads))
+    ∙ with_operands-back (position_in held) (register_of held) (operation j) (back-all held len (operands (operation j)) tidy right.reads))
 
 -- instructions that are renamed to the same and go to the least registers are the same
 instrs-same : (held : List (Option ℕ)) (position : ℕ) (is js : List RegInstr) (code : List Instr) (outs ends others : List ℕ)
@@ -122,20 +124,20 @@ runs-outs held position (i ∷ is) outs runs = runs-outs (stepped held position 
 
 -- outs that are renamed to the same are the same
 outs-same : (held : List (Option ℕ)) (len : ℕ) (rs ss : List ℕ) → IsTidy held len → AreSet held rs → AreSet held ss
-    → map (place held) rs ≡ map (place held) ss → rs ≡ ss
+    → map (position_in held) rs ≡ map (position_in held) ss → rs ≡ ss
 outs-same held len [] [] tidy left right same = refl
 outs-same held len [] (s ∷ ss) tidy left right same = absurd (apart same) where
-  apart : [] ≡ place held s ∷ map (place held) ss → ⊥
+  apart : [] ≡ position_in held s ∷ map (position_in held) ss → ⊥
   apart e = cc
 outs-same held len (r ∷ rs) [] tidy left right same = absurd (apart same) where
-  apart : place held r ∷ map (place held) rs ≡ [] → ⊥
+  apart : position_in held r ∷ map (position_in held) rs ≡ [] → ⊥
   apart e = cc
 outs-same held len (r ∷ rs) (s ∷ ss) tidy left right same =
     let head : r ≡ s = sym (back-at held len r tidy left.0)
-    ∙ ap (register_of held) (head-same (place held r) (place held s) (map (place held) rs) (map (place held) ss) same)
+    ∙ ap (register_of held) (head-same (position_in held r) (position_in held s) (map (position_in held) rs) (map (position_in held) ss) same)
     ∙ back-at held len s tidy right.0 in
     let rest : rs ≡ ss = outs-same held len rs ss tidy left.1 right.1
-    (tail-same (place held r) (place held s) (map (place held) rs) (map (place held) ss) same) in
+    (tail-same (position_in held r) (position_in held s) (map (position_in held) rs) (map (position_in held) ss) same) in
     ap (λ (x : ℕ). x ∷ rs) head ∙ ap (λ (xs : List ℕ). s ∷ xs) rest
 
 -- register code of the same shape is the same where its instructions and outs are
@@ -191,7 +193,7 @@ shaped-same code r s left right =
     (runs-outs held entries r.instrs r.outs first)
     (subst (λ (h : List (Option ℕ)). AreSet h s.outs) also (runs-outs held entries s.instrs s.outs second))
     (ap (λ (c : Listing). c.outs) left.renamed.same ∙ sym (ap (λ (c : Listing). c.outs) right.renamed.same)
-    ∙ ap (λ (h : List (Option ℕ)). map (place h) s.outs) also) in
+    ∙ ap (λ (h : List (Option ℕ)). map (position_in h) s.outs) also) in
     same-shape code.field code.order code.secrets code.publics (width code) code.maps r.instrs s.instrs r.outs s.outs instrs outs
 
 -- so what is allocated for code is one register code

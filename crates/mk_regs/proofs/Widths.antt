@@ -7,7 +7,7 @@ use Rattle.mk_code.specs.declared.instr.Instr.{Instr}
 use Rattle.mk_code.specs.Listing.{Listing, inputs_len}
 use Rattle.mk_regs.specs.declared.instr.RegInstr.{RegInstr}
 use Rattle.mk_regs.specs.Form.{RegListing, target, operation, operands, entries_len}
-use Rattle.mk_regs.specs.Renaming.{holding, place, held_on_entry, stepped, held_behind, renamed_instr, renamed_instrs, renamed, IsRenamed}
+use Rattle.mk_regs.specs.Renaming.{holding, position_in, held_on_entry, stepped, held_behind, renamed_instr, renamed_instrs, renamed, IsRenamed}
 use Rattle.mk_regs.specs.Width.{is_among, is_read, live_count, most_live, width}
 use Rattle.mk_regs.proofs.Parts.{operands-with}
 use Rattle.mk_regs.proofs.Held.{holding-set, holding-other, held-length}
@@ -15,12 +15,12 @@ use Rattle.mk_regs.proofs.Running.{AreSet, Runs, runs-from_none}
 use Rattle.mk_regs.proofs.Counts.{count-held}
 
 -- a position that is read stands in a register
-among-places : (held : List (Option ℕ)) (rs : List ℕ) (p : ℕ) → AreSet held rs → is_among p (map (place held) rs) ≡ true
+among-positions : (held : List (Option ℕ)) (rs : List ℕ) (p : ℕ) → AreSet held rs → is_among p (map (position_in held) rs) ≡ true
     → (r : ℕ) × (holding held r ≡ Some p)
-among-places held [] p sets among = absurd (false≢true among)
-among-places held (r ∷ rs) p sets among = elim (or_cases (nat_eq (place held r) p) (is_among p (map (place held) rs)) among) [
-  | inl here ↦ (r, sets.0.1 ∙ ap (λ (q : ℕ). Some q) (sym (ap (λ (o : Option ℕ). unwrap_or o 0) sets.0.1) ∙ eqb-true (place held r) p here))
-  | inr behind ↦ among-places held rs p sets.1 behind
+among-positions held [] p sets among = absurd (false≢true among)
+among-positions held (r ∷ rs) p sets among = elim (or_cases (nat_eq (position_in held r) p) (is_among p (map (position_in held) rs)) among) [
+  | inl here ↦ (r, sets.0.1 ∙ ap (λ (q : ℕ). Some q) (sym (ap (λ (o : Option ℕ). unwrap_or o 0) sets.0.1) ∙ eqb-true (position_in held r) p here))
+  | inr behind ↦ among-positions held rs p sets.1 behind
 ]
 
 -- the register that is written holds the new entry alone
@@ -29,14 +29,14 @@ written held to position p there holds = same_Some p position (sym holds ∙ hol
 
 -- an entry that is read later stands in a register
 pub live-held : (held : List (Option ℕ)) (position : ℕ) (is : List RegInstr) (outs : List ℕ) (p : ℕ) → Runs held position is outs
-    → is_read (renamed_instrs held position is) (map (place (held_behind held position is)) outs) p ≡ true → p < position
+    → is_read (renamed_instrs held position is) (map (position_in (held_behind held position is)) outs) p ≡ true → p < position
     → (r : ℕ) × (holding held r ≡ Some p)
 unfolding is_read renamed_instrs held_behind Runs
-live-held held position [] outs p runs read below = among-places held outs p runs read
+live-held held position [] outs p runs read below = among-positions held outs p runs read
 live-held held position (i ∷ is) outs p runs read below =
-    let later = is_read (renamed_instrs (stepped held position i) (position + 1) is) (map (place (held_behind (stepped held position i) (position + 1) is)) outs) p in
+    let later = is_read (renamed_instrs (stepped held position i) (position + 1) is) (map (position_in (held_behind (stepped held position i) (position + 1) is)) outs) p in
     elim (or_cases (is_among p (operands (renamed_instr held i))) later read) [
-      | inl now ↦ among-places held (operands (operation i)) p runs.0.reads (sym (ap (is_among p) (operands-with (place held) (operation i))) ∙ now)
+      | inl now ↦ among-positions held (operands (operation i)) p runs.0.reads (sym (ap (is_among p) (operands-with (position_in held) (operation i))) ∙ now)
       | inr behind ↦
           let there = live-held (stepped held position i) (position + 1) is outs p runs.1 behind (omega arith) in
           elim (cases_eq there.0 (target i)) [
@@ -48,13 +48,13 @@ live-held held position (i ∷ is) outs p runs read below =
 
 -- behind each instruction there are at most as many live entries as registers
 most-held : (held : List (Option ℕ)) (position : ℕ) (is : List RegInstr) (outs : List ℕ) → Runs held position is outs
-    → most_live position (renamed_instrs held position is) (map (place (held_behind held position is)) outs) ≤ length held
+    → most_live position (renamed_instrs held position is) (map (position_in (held_behind held position is)) outs) ≤ length held
 unfolding most_live renamed_instrs held_behind Runs
 most-held held position [] outs runs = omega arith
 most-held held position (i ∷ is) outs runs =
     let next = stepped held position i in
     let later = renamed_instrs next (position + 1) is in
-    let ends = map (place (held_behind next (position + 1) is)) outs in
+    let ends = map (position_in (held_behind next (position + 1) is)) outs in
     let here : live_count position later ends ≤ length next =
     count-held next (position + 1) (λ p. nat_eq p position || is_read later ends p)
     (λ p below passes. elim (or_cases (nat_eq p position) (is_read later ends p) passes) [
@@ -93,6 +93,7 @@ live-most position (i ∷ is) outs (suc k) below =
     let behind : live_count (position + 1 + k) (drop (k + 1) is) outs ≤ most_live (position + 1) is outs = live-most (position + 1) is outs k (omega arith) in
     omega (arith, behind, same)
 
+-- behind each instruction at most as many entries are live as the code is wide
 pub live-width : (code : Listing) (k : ℕ) → k < length code.instrs
     → live_count (inputs_len code.order code.secrets code.publics + k) (drop (k + 1) code.instrs) code.outs ≤ width code
 live-width code k below =

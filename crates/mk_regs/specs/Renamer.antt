@@ -1,9 +1,14 @@
 -- A renaming of register code, instruction by instruction.
-use Rattle.std.specs.Prelude.{ℕ, ◌+◌, ◌≤◌, List, Option, length}
+use Rattle.std.specs.Prelude.{ℕ, ◌+◌, ◌≤◌, List, Option, Some, None, length, nat_eq, if◌then◌else◌}
 use Rattle.mk_code.specs.declared.TheConstants.{MOST_INSTRS}
 use Rattle.mk_regs.specs.declared.instr.RegInstr.{RegInstr}
 use Rattle.mk_regs.specs.declared.TheConstants.{MOST_REGISTERS}
+use Rattle.mk_regs.specs.declared.renamer.TheConstants.{NOTHING}
 use Rattle.mk_regs.specs.Renaming.{stepped}
+
+-- what a register holds whose number in the table is this one
+abbrev pub held_by : ℕ → Option ℕ
+held_by number = if nat_eq number NOTHING then None else Some number
 
 -- a renaming so far: what each register holds, how many entries there were on entry, and how many instructions were
 -- renamed

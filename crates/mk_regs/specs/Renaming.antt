@@ -14,8 +14,8 @@ abbrev pub holding : List (Option ℕ) → ℕ → Option ℕ
 holding held r = slice_index_or held r None
 
 -- the position of the entry that a register holds
-abbrev pub place : List (Option ℕ) → ℕ → ℕ
-place held r = unwrap_or (holding held r) 0
+abbrev pub position_in : List (Option ℕ) → ℕ → ℕ
+position_in held r = unwrap_or (holding held r) 0
 
 -- what so many registers hold on entry: register i the entry i, and those behind the entries nothing
 abbrev pub held_on_entry : ℕ → ℕ → List (Option ℕ)
@@ -32,7 +32,7 @@ held_behind held position (i ∷ is) = held_behind (stepped held position i) (po
 
 -- the instruction in which each register read is replaced by the position of the entry that it holds
 abbrev pub renamed_instr : List (Option ℕ) → RegInstr → Instr
-renamed_instr held i = with_operands (place held) (operation i)
+renamed_instr held i = with_operands (position_in held) (operation i)
 
 -- the same of some instructions
 unfoldable pub renamed_instrs : List (Option ℕ) → ℕ → List RegInstr → List Instr
@@ -53,7 +53,7 @@ renamed r = record {
   publics = r.publics;
   maps = r.maps;
   instrs = renamed_instrs (held_on_entry (entries_len r) r.registers) (entries_len r) r.instrs;
-  outs = map (place (held_at_end r)) r.outs;
+  outs = map (position_in (held_at_end r)) r.outs;
 }
 
 -- why these registers can't be named and those read at instruction k, if so: one that is named isn't there, or else

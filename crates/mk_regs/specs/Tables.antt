@@ -5,7 +5,8 @@ use Rattle.std.specs.declared.cmp.Reverse.{Reverse}
 use Rattle.mk_code.specs.Listing.{Listing, trace_len}
 use Rattle.mk_regs.specs.Width.{is_among, is_read}
 
--- an entry that isn't known to be read yet has this reader
+-- where an entry isn't known to be read yet, its number becomes this one: one more than that of the instruction that
+-- reads it, the outs being read behind the last
 abbrev pub marked : ℕ → List ℕ → ℕ → List ℕ
 marked reader last q = if nat_eq (slice_index last q) 0 then slice_set last q reader else last
 
@@ -33,6 +34,6 @@ pub record IsTaken (before after : List (Reverse ℕ)) (next behind to : ℕ) : 
 -- how often a register comes free where these entries are read, and nothing from instruction `from` on reads them: once
 -- for each entry that stands in it
 abbrev pub freed : List ℕ → List ℕ → ℕ → ℕ → List ℕ → ℕ
-freed place last from r [] = 0
-freed place last from r (q ∷ qs) =
-    (if is_among q qs then 0 else one_where (nat_le (slice_index last q) from && nat_eq (slice_index place q) r)) + freed place last from r qs
+freed register_of last from r [] = 0
+freed register_of last from r (q ∷ qs) =
+    (if is_among q qs then 0 else one_where (nat_le (slice_index last q) from && nat_eq (slice_index register_of q) r)) + freed register_of last from r qs

@@ -13,6 +13,7 @@ use crate::code::RegCode;
 use crate::free::FreeRegisters;
 use crate::instr::RegInstr;
 use crate::last::last_readers;
+use crate::room::room_for;
 use mk_base::{Items, Memory};
 use mk_code::{Code, Instr, PositionList};
 use std::alloc::Global;
@@ -29,21 +30,27 @@ pub fn allocate(alloc: Global, code: &Code) -> Result<RegCode, Memory>
     let instrs = code.instrs().as_slice();
     let entries = code.trace_len() - instrs.len() as u32;
     let last = last_readers(alloc, code)?;
-    let mut place = Vec::with_capacity(alloc, last.len())?;
+    let mut register_of = Vec::with_capacity(alloc, last.len())?;
     let mut free = FreeRegisters::new(alloc, entries, last.len())?;
-    place_inputs(&mut place, &mut free, last.as_slice(), entries)?;
+    place_inputs(&mut register_of, &mut free, last.as_slice(), entries)?;
     let mut allocated = Vec::with_capacity(alloc, instrs.len())?;
     let mut behind = 0;
     for instr in instrs {
         behind += 1;
-        let operation = over_registers(place.as_slice(), *instr);
-        free_operands(&mut free, place.as_slice(), last.as_slice(), behind, *instr)?;
+        let operation = over_registers(register_of.as_slice(), *instr);
+        free_operands(
+            &mut free,
+            register_of.as_slice(),
+            last.as_slice(),
+            behind,
+            *instr,
+        )?;
         let to = free.take();
-        free_unread(&mut free, to, last[place.len()], behind)?;
-        place.push(to)?;
+        free_unread(&mut free, to, last[register_of.len()], behind)?;
+        register_of.push(to)?;
         allocated.push(RegInstr::new(to, operation))?;
     }
-    let outs = places(alloc, place.as_slice(), code.outs().as_slice())?;
+    let outs = registers_of(alloc, register_of.as_slice(), code.outs().as_slice())?;
     let maps = code.maps().copy(alloc)?;
     Ok(RegCode::new(
         code.field(),
@@ -67,49 +74,49 @@ pub fn width(alloc: Global, code: &Code) -> Result<u32, Memory>
 
 /// Places input i in register i. The registers of those that nothing reads are free.
 fn place_inputs(
-    place: &mut Vec<u32>,
+    register_of: &mut Vec<u32>,
     free: &mut FreeRegisters,
     last: &[u32],
     entries: u32,
 ) -> Result<(), Memory>
-    requires none { length place.old.items ≡ 0 }
+    requires none { length register_of.old.items ≡ 0 }
     requires known { entries ≤ length last.now }
-    ensures place { OnOk result (place.new.items ≡ range_with_len 0 entries) }
+    ensures registers { OnOk result (register_of.new.items ≡ range_with_len 0 entries) }
     ensures next { OnOk result (free.new.next ≡ free.old.next) }
     ensures free { OnOk result ((r : ℕ) → times_free (heap_items free.new.heap) r ≡ times_free (heap_items free.old.heap) r + one_where (nat_lt r entries && nat_le (slice_index last.now r) 0)) }
 {
     for entry in 0..entries {
         free_unread(free, entry, last[entry as usize], 0)?;
-        place.push(entry)?;
+        register_of.push(entry)?;
     }
     Ok(())
 }
 
-/// The instruction with the places of its operands as operands.
-fn over_registers(place: &[u32], instr: Instr) -> Instr
-    requires { AllByRecursion (λ q. q < length place.now) (operands instr) }
-    ensures { result ≡ with_operands (slice_index place.now) instr }
+/// The instruction with the registers of its operands as operands.
+fn over_registers(register_of: &[u32], instr: Instr) -> Instr
+    requires { AllByRecursion (λ q. q < length register_of.now) (operands instr) }
+    ensures { result ≡ with_operands (slice_index register_of.now) instr }
 {
     match instr {
         Instr::Rnd => Instr::Rnd,
         Instr::Const { value } => Instr::Const { value },
         Instr::Copy { from } => Instr::Copy {
-            from: place[from as usize],
+            from: register_of[from as usize],
         },
         Instr::Add { left, right } => Instr::Add {
-            left: place[left as usize],
-            right: place[right as usize],
+            left: register_of[left as usize],
+            right: register_of[right as usize],
         },
         Instr::Mul { left, right } => Instr::Mul {
-            left: place[left as usize],
-            right: place[right as usize],
+            left: register_of[left as usize],
+            right: register_of[right as usize],
         },
         Instr::Sq { from } => Instr::Sq {
-            from: place[from as usize],
+            from: register_of[from as usize],
         },
         Instr::Map { map, from } => Instr::Map {
             map,
-            from: place[from as usize],
+            from: register_of[from as usize],
         },
     }
 }
@@ -117,25 +124,35 @@ fn over_registers(place: &[u32], instr: Instr) -> Instr
 /// Frees the registers of those operands that nothing reads from instruction `from` on.
 fn free_operands(
     free: &mut FreeRegisters,
-    place: &[u32],
+    register_of: &[u32],
     last: &[u32],
     from: u32,
     instr: Instr,
 ) -> Result<(), Memory>
-    requires placed { AllByRecursion (λ q. q < length place.now) (operands instr) }
+    requires placed { AllByRecursion (λ q. q < length register_of.now) (operands instr) }
     requires known { AllByRecursion (λ q. q < length last.now) (operands instr) }
     ensures next { OnOk result (free.new.next ≡ free.old.next) }
-    ensures free { OnOk result ((r : ℕ) → times_free (heap_items free.new.heap) r ≡ times_free (heap_items free.old.heap) r + freed place.now last.now from r (operands instr)) }
+    ensures free { OnOk result ((r : ℕ) → times_free (heap_items free.new.heap) r ≡ times_free (heap_items free.old.heap) r + freed register_of.now last.now from r (operands instr)) }
 {
     match instr {
         Instr::Rnd | Instr::Const { .. } => Ok(()),
         Instr::Copy { from: entry } | Instr::Sq { from: entry } | Instr::Map { from: entry, .. } =>
-            free_unread(free, place[entry as usize], last[entry as usize], from),
+            free_unread(
+                free,
+                register_of[entry as usize],
+                last[entry as usize],
+                from,
+            ),
         Instr::Add { left, right } | Instr::Mul { left, right } => {
             if left != right {
-                free_unread(free, place[left as usize], last[left as usize], from)?;
+                free_unread(free, register_of[left as usize], last[left as usize], from)?;
             }
-            free_unread(free, place[right as usize], last[right as usize], from)
+            free_unread(
+                free,
+                register_of[right as usize],
+                last[right as usize],
+                from,
+            )
         }
     }
 }
@@ -151,14 +168,14 @@ fn free_unread(free: &mut FreeRegisters, register: u32, last: u32, from: u32) ->
     Ok(())
 }
 
-/// The places of some entries.
-fn places(alloc: Global, place: &[u32], entries: &[u32]) -> Result<PositionList, Memory>
-    requires { All (λ p. p < length place.now) entries.now }
-    ensures { IfOk result (λ rs. rs ≡ map (slice_index place.now) entries.now) }
+/// The registers of some entries.
+fn registers_of(alloc: Global, register_of: &[u32], entries: &[u32]) -> Result<PositionList, Memory>
+    requires { All (λ p. p < length register_of.now) entries.now }
+    ensures { IfOk result (λ rs. rs ≡ map (slice_index register_of.now) entries.now) }
 {
-    let mut registers = Items::new(alloc);
+    let mut registers = room_for(alloc, entries.len())?;
     for entry in entries {
-        registers.push(place[*entry as usize])?;
+        registers.push(register_of[*entry as usize])?;
     }
     Ok(registers)
 }

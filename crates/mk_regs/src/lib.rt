@@ -15,6 +15,7 @@ mod refusal;
 mod register_tests;
 mod rename;
 mod renamer;
+mod room;
 
 pub use allocation::{allocate, width};
 pub use code::{RegCode, RegInstrList};

@@ -1,9 +1,9 @@
 //! Small codes over registers and over positions.
 
-use crate::{RegInstr, RegRefusal, Renamer, allocate, rename_back, width};
+use crate::{RegCode, RegInstr, RegRefusal, Renamer, allocate, rename_back, width};
 use mk_base::{Items, Memory};
 use mk_code::{Code, CodeBuilder, Instr};
-use mk_field::{Gf2, Gf256};
+use mk_field::{FieldId, Gf2, Gf256};
 use std::alloc::Global;
 
 /// The sum of two bytes at order 1.
@@ -252,5 +252,47 @@ fn renames_step_by_step(rt: HostRuntime) -> Result<(), Memory> {
     }
     assert_eq!(rt; renamer.out(5), Ok(6));
     assert_eq!(rt; renamer.out(6), Err(RegRefusal::Register { instr: 3 }));
+    Ok(())
+}
+
+/// Why register code isn't renamed that has three registers, two of which hold the shares of a bit on entry: its one
+/// instruction writes the sum of two registers to a third, and it has two outs.
+fn refused_sum(
+    alloc: Global,
+    (to, left, right): (u32, u32, u32),
+    (first, second): (u32, u32),
+) -> Result<Option<RegRefusal>, Memory> {
+    let mut instrs = Items::new(alloc);
+    instrs.push(RegInstr::Add { to, left, right })?;
+    let mut outs = Items::new(alloc);
+    outs.push(first)?;
+    outs.push(second)?;
+    let code = RegCode::new(FieldId::Gf2, 1, 1, 0, 3, Items::new(alloc), instrs, outs);
+    Ok(rename_back(alloc, &code).err())
+}
+
+#[test]
+fn refuses_at_instructions_and_outs(rt: HostRuntime) -> Result<(), Memory> {
+    let rows = [
+        ((0, 0, 1), (0, 1), None),
+        // Register 2 holds nothing, and there is no register 3.
+        ((0, 0, 2), (0, 1), Some(RegRefusal::Unset { instr: 0 })),
+        ((3, 0, 1), (0, 1), Some(RegRefusal::Register { instr: 0 })),
+        // A register that isn't there comes before one that holds nothing.
+        ((3, 2, 0), (0, 1), Some(RegRefusal::Register { instr: 0 })),
+        ((0, 2, 3), (0, 1), Some(RegRefusal::Register { instr: 0 })),
+        // Instructions come before outs.
+        ((0, 0, 2), (3, 3), Some(RegRefusal::Unset { instr: 0 })),
+        ((0, 0, 1), (0, 2), Some(RegRefusal::Unset { instr: 1 })),
+        ((0, 0, 1), (0, 3), Some(RegRefusal::Register { instr: 1 })),
+        // Outs are looked at one by one.
+        ((0, 0, 1), (2, 3), Some(RegRefusal::Unset { instr: 1 })),
+        ((0, 0, 1), (3, 2), Some(RegRefusal::Register { instr: 1 })),
+        // What the instruction wrote is there.
+        ((2, 0, 1), (2, 0), None),
+    ];
+    for (sum, outs, wanted) in rows {
+        assert_eq!(rt; refused_sum(rt.alloc(), sum, outs)?, wanted);
+    }
     Ok(())
 }

@@ -2,13 +2,13 @@
 
 ghost use Rattle.std.specs.Prelude.{◌≡◌, ℕ, ◌+◌, ◌≤◌, ◌⊎◌, List, Some, None, length, map, IfOk, OnOk, IfErr};
 ghost use Rattle.mk_code.specs.declared.TheConstants.{MOST_INSTRS};
-ghost use Rattle.mk_regs.specs.Renaming.{place, held_behind, renamed_instrs, renamed, outs_refusal, first_refusal, refusal_of};
+ghost use Rattle.mk_regs.specs.Renaming.{position_in, held_behind, renamed_instrs, renamed, outs_refusal, first_refusal, refusal_of};
 
 use crate::code::RegCode;
 use crate::instr::RegInstr;
 use crate::refusal::RegRefusal;
 use crate::renamer::Renamer;
-use mk_base::Items;
+use crate::room::room_for;
 use mk_code::{Code, InstrList, PositionList};
 use std::alloc::Global;
 
@@ -51,7 +51,7 @@ fn rename_instrs(
     ensures accepted { OnOk result ((outs : List ℕ) → first_refusal renamer.old.entries renamer.old.accepted renamer.old.held instrs.now outs ≡ outs_refusal renamer.new.held renamer.new.accepted outs) }
     ensures refused { IfErr result (λ e. (e ≡ RegRefusal.Memory) ⊎ ((outs : List ℕ) → first_refusal renamer.old.entries renamer.old.accepted renamer.old.held instrs.now outs ≡ Some e)) }
 {
-    let mut renamed = Items::new(alloc);
+    let mut renamed = room_for(alloc, instrs.len())?;
     for instr in instrs {
         let over_positions = renamer.step(instr)?;
         renamed.push(over_positions)?;
@@ -61,11 +61,11 @@ fn rename_instrs(
 
 /// The positions of the outs.
 fn rename_outs(alloc: Global, renamer: &Renamer, outs: &[u32]) -> Result<PositionList, RegRefusal>
-    ensures renamed { IfOk result (λ positions. positions ≡ map (place renamer.now.held) outs.now) }
+    ensures renamed { IfOk result (λ positions. positions ≡ map (position_in renamer.now.held) outs.now) }
     ensures accepted { OnOk result (outs_refusal renamer.now.held renamer.now.accepted outs.now ≡ None) }
     ensures refused { IfErr result (λ e. (e ≡ RegRefusal.Memory) ⊎ (outs_refusal renamer.now.held renamer.now.accepted outs.now ≡ Some e)) }
 {
-    let mut positions = Items::new(alloc);
+    let mut positions = room_for(alloc, outs.len())?;
     for out in outs {
         let position = renamer.out(*out)?;
         positions.push(position)?;

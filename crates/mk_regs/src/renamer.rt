@@ -3,7 +3,7 @@ ghost use Rattle.std.specs.List.{list_all, range_with_len};
 ghost use Rattle.mk_code.specs.declared.TheConstants.{MOST_INSTRS};
 ghost use Rattle.mk_regs.specs.declared.TheConstants.{MOST_REGISTERS};
 ghost use Rattle.mk_regs.specs.Form.{target, operation, operands, with_operands};
-ghost use Rattle.mk_regs.specs.Renaming.{holding, place, held_on_entry, renamed_instr, instr_refusal, out_refusal};
+ghost use Rattle.mk_regs.specs.Renaming.{holding, position_in, held_on_entry, renamed_instr, instr_refusal, out_refusal};
 ghost use Rattle.mk_regs.specs.Renamer.{behind};
 
 use crate::instr::RegInstr;
@@ -13,23 +13,27 @@ use mk_code::Instr;
 use std::alloc::Global;
 use std::marker::Model;
 
+/// The number that stands for no position in the table of a `Renamer`.
+const NOTHING: u32 = u32::MAX;
+
 /// Renames register code one instruction after the other. It holds, for each register, the position of
-/// the entry of the trace that the register holds.
+/// the entry of the trace that the register holds. Its table takes four bytes for each register.
 #[derive(Drop)]
 pub struct Renamer {
-    held: Vec<Option<u32>>,
+    held: Vec<u32>,
     entries: u32,
     accepted: u32,
 }
 
 impl Model for Renamer {
-    ghost use Rattle.mk_regs.specs.Renamer.{Renaming, IsRenaming};
+    ghost use Rattle.std.specs.Prelude.{map};
+    ghost use Rattle.mk_regs.specs.Renamer.{Renaming, IsRenaming, held_by};
 
     ghost Value = { Renaming };
 
-    ghost view = { λ n. record { held = n.held.items; entries = n.entries; accepted = n.accepted } };
+    ghost view = { λ n. record { held = map held_by n.held.items; entries = n.entries; accepted = n.accepted } };
 
-    ghost invariant = { λ n. IsRenaming (record { held = n.held.items; entries = n.entries; accepted = n.accepted }) };
+    ghost invariant = { λ n. IsRenaming (record { held = map held_by n.held.items; entries = n.entries; accepted = n.accepted }) };
 }
 
 impl Renamer {
@@ -43,9 +47,9 @@ impl Renamer {
         let mut held = Vec::with_capacity(alloc, registers as usize)?;
         for register in 0..registers {
             held.push(if register < entries {
-                Some(register)
+                register
             } else {
-                None
+                NOTHING
             })?;
         }
         Ok(Renamer {
@@ -83,7 +87,7 @@ impl Renamer {
                 });
             }
         };
-        self.held[target as usize] = Some(self.entries + self.accepted);
+        self.held[target as usize] = self.entries + self.accepted;
         self.accepted += 1;
         Ok(renamed)
     }
@@ -94,7 +98,7 @@ impl Renamer {
     /// `Register` comes exactly where the register isn't there, and `Unset` where it holds nothing. Both
     /// have the number of instructions.
     pub fn out(&self, register: u32) -> Result<u32, RegRefusal>
-        ensures renamed { IfOk result (λ p. p ≡ place self.now.held register) }
+        ensures renamed { IfOk result (λ p. p ≡ position_in self.now.held register) }
         ensures accepted { OnOk result (out_refusal self.now.held self.now.accepted register ≡ None) }
         ensures refused { IfErr result (λ e. out_refusal self.now.held self.now.accepted register ≡ Some e) }
     {
@@ -134,17 +138,21 @@ impl Renamer {
     fn position(&self, register: u32) -> Option<u32>
         ensures { result ≡ holding self.now.held register }
     {
-        if self.has(register) {
-            self.held[register as usize]
-        } else {
+        if !self.has(register) {
+            return None;
+        }
+        let position = self.held[register as usize];
+        if position == NOTHING {
             None
+        } else {
+            Some(position)
         }
     }
 
     /// The instruction with its operands, which are registers, replaced by positions. `None` comes
     /// exactly where one of them holds nothing.
     fn over_positions(&self, operation: Instr) -> Option<Instr>
-        ensures { result ≡ (if list_all (λ r. is_some (holding self.now.held r)) (operands operation) then Some (with_operands (place self.now.held) operation) else None) }
+        ensures { result ≡ (if list_all (λ r. is_some (holding self.now.held r)) (operands operation) then Some (with_operands (position_in self.now.held) operation) else None) }
     {
         match operation {
             Instr::Rnd => Some(Instr::Rnd),

@@ -106,6 +106,7 @@ module _ (row : List ℕ) where
   pub has-on : (k : ℕ) → HasBit row k → has row k ≡ true
   has-on k set = eq-eqb (bit_at (slice_index row (k / 64)) (k % 64)) 1 set
 
+  -- a bit that is not set reads false
   pub has-off : (k : ℕ) → (HasBit row k → ⊥) → has row k ≡ false
   has-off k unset = elim (cases_Bool (has row k)) [
     | inl on ↦ absurd (unset (eqb-true (bit_at (slice_index row (k / 64)) (k % 64)) 1 on))

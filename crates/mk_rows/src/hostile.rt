@@ -3,7 +3,7 @@
 use crate::outside::{CALM, Outside, WIDE};
 use crate::row::{answered, words_of};
 use crate::texts::{REFRESHED, SUM, SUM_BUNDLE};
-use mk_base::{DropSink, Memory, SureSource};
+use mk_base::{DropSink, MemSink, MemSource, Memory, Sink, Source, SureSource};
 use mk_top::{MOST_SOURCE_BYTES, Status, mask_main};
 use std::alloc::Global;
 use std::test::*;
@@ -18,43 +18,105 @@ fn bundle_line(alloc: Global, line: usize) -> Result<String, Memory> {
     Ok(text)
 }
 
-/// Whether a command answers a read fault, and writes nothing, where the read behind so many fails.
-fn fails_to_read(alloc: Global, words: &[&str], input: &str, before: u32) -> Result<bool, Memory> {
-    let reads = [before.saturating_add(1)];
+/// Whether the next call of a source fails.
+fn read_fails(src: &mut MemSource) -> bool {
+    let mut byte = [0; 1];
+    src.read(&mut byte).is_err()
+}
+
+/// Whether the next call of a sink fails.
+fn write_fails(sink: &mut MemSink) -> bool {
+    sink.write(b"x").is_err()
+}
+
+/// Whether a command answers a read fault, writes nothing and reads no more, where the read of this number fails.
+fn fails_to_read(alloc: Global, words: &[&str], input: &str, call: u32) -> Result<bool, Memory> {
+    // The read behind it is left to this test.
+    let reads = [call, call.saturating_add(1)];
     let outside = Outside {
         piece: PIECE,
         reads: &reads,
         ..CALM
     };
-    let given = answered(alloc, &outside, words, input.as_bytes())?;
+    let mut given = answered(alloc, &outside, words, input.as_bytes())?;
     Ok(
         given.status == Status::ReadFault
             && given.out.taken().is_empty()
-            && given.err.taken() == "6 read fault\n".as_bytes(),
+            && given.err.taken() == "6 read fault\n".as_bytes()
+            && read_fails(&mut given.src),
     )
 }
 
-/// Whether a command answers a write fault, and writes what came before, where the write behind so many fails.
+/// Whether a command answers a write fault, writes what came before and no more, where the write of this number fails.
 fn fails_to_write(
     alloc: Global,
     words: &[&str],
     input: &str,
     text: &str,
-    before: u32,
+    call: u32,
 ) -> Result<bool, Memory> {
-    let writes = [before.saturating_add(1)];
+    // The write behind it is left to this test.
+    let writes = [call, call.saturating_add(1)];
     let outside = Outside {
         piece: PIECE,
         writes: &writes,
         ..CALM
     };
-    let given = answered(alloc, &outside, words, input.as_bytes())?;
-    let taken = (before as usize).saturating_mul(PIECE);
+    let mut given = answered(alloc, &outside, words, input.as_bytes())?;
+    let taken = (call as usize).saturating_sub(1).saturating_mul(PIECE);
     let front = text.as_bytes().get(..taken).unwrap_or(b"");
     Ok(
         given.status == Status::WriteFault
             && given.out.taken() == front
-            && given.err.taken() == "7 write fault\n".as_bytes(),
+            && given.err.taken() == "7 write fault\n".as_bytes()
+            && write_fails(&mut given.out),
+    )
+}
+
+/// Whether `check` of nothing tells a front of its fault alone, with its own status, where the call of this number of the
+/// error output fails.
+fn fails_to_tell(alloc: Global, call: u32) -> Result<bool, Memory> {
+    let tells = [call, call.saturating_add(1)];
+    let outside = Outside {
+        piece: PIECE,
+        tells: &tells,
+        ..CALM
+    };
+    let mut given = answered(alloc, &outside, &["check"], b"")?;
+    let taken = (call as usize).saturating_sub(1).saturating_mul(PIECE);
+    let front = UNTOLD.as_bytes().get(..taken).unwrap_or(UNTOLD.as_bytes());
+    Ok(
+        given.status == Status::Bundle
+            && given.out.taken().is_empty()
+            && given.err.taken() == front
+            && write_fails(&mut given.err),
+    )
+}
+
+/// Whether a command is carried out and writes its text by so many reads and writes, and tells nothing, where each device
+/// would fail at its next call.
+fn ends_at(
+    alloc: Global,
+    words: &[&str],
+    input: &str,
+    text: &str,
+    (reads, writes): (u32, u32),
+) -> Result<bool, Memory> {
+    let behind_reads = [reads.saturating_add(1)];
+    let behind_writes = [writes.saturating_add(1)];
+    let outside = Outside {
+        piece: PIECE,
+        reads: &behind_reads,
+        writes: &behind_writes,
+        tells: &[1],
+    };
+    let mut given = answered(alloc, &outside, words, input.as_bytes())?;
+    Ok(
+        given.status == Status::Done
+            && given.out.taken() == text.as_bytes()
+            && read_fails(&mut given.src)
+            && write_fails(&mut given.out)
+            && write_fails(&mut given.err),
     )
 }
 
@@ -69,13 +131,20 @@ const COMMANDS: [(&[&str], &str, &str); 2] = [
     (&["check"], SUM_BUNDLE, "accepted\n"),
 ];
 
+/// What `check` of nothing tells.
+const UNTOLD: &str = "41 bundle 1\n";
+
+/// How many calls read a text: the last finds its end.
+fn reads_of(text: &str) -> u32 {
+    pieces_of(text).saturating_add(1)
+}
+
 #[test]
 fn each_read_that_fails_is_told(rt: HostRuntime) -> Result<(), Memory> {
     let alloc = rt.alloc();
     for (words, input, _) in COMMANDS {
-        // The last read finds the end.
-        for before in 0..pieces_of(input).saturating_add(1) {
-            assert!(rt; fails_to_read(alloc, words, input, before)?);
+        for call in 1..=reads_of(input) {
+            assert!(rt; fails_to_read(alloc, words, input, call)?);
         }
     }
     Ok(())
@@ -85,9 +154,27 @@ fn each_read_that_fails_is_told(rt: HostRuntime) -> Result<(), Memory> {
 fn each_write_that_fails_is_told(rt: HostRuntime) -> Result<(), Memory> {
     let alloc = rt.alloc();
     for (words, input, text) in COMMANDS {
-        for before in 0..pieces_of(text) {
-            assert!(rt; fails_to_write(alloc, words, input, text, before)?);
+        for call in 1..=pieces_of(text) {
+            assert!(rt; fails_to_write(alloc, words, input, text, call)?);
         }
+    }
+    Ok(())
+}
+
+#[test]
+fn an_error_output_that_fails_changes_no_status(rt: HostRuntime) -> Result<(), Memory> {
+    for call in 1..=pieces_of(UNTOLD) {
+        assert!(rt; fails_to_tell(rt.alloc(), call)?);
+    }
+    Ok(())
+}
+
+#[test]
+fn no_call_behind_the_last_is_made(rt: HostRuntime) -> Result<(), Memory> {
+    let alloc = rt.alloc();
+    for (words, input, text) in COMMANDS {
+        let calls = (reads_of(input), pieces_of(text));
+        assert!(rt; ends_at(alloc, words, input, text, calls)?);
     }
     Ok(())
 }

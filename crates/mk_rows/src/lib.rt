@@ -10,6 +10,8 @@ mod outside;
 #[cfg(test)]
 mod row;
 #[cfg(test)]
+mod tables;
+#[cfg(test)]
 mod texts;
 
 #[cfg(test)]

@@ -57,10 +57,11 @@ pub(crate) fn words_of(alloc: Global, words: &[&str]) -> Result<Words, Memory> {
     Ok(list)
 }
 
-/// What the top call answered, and what it wrote and told.
+/// What the top call answered, what it left of the input, and what it wrote and told.
 #[derive(Drop)]
 pub(crate) struct Outcome {
     pub status: Status,
+    pub src: MemSource,
     pub out: MemSink,
     pub err: MemSink,
 }
@@ -78,7 +79,12 @@ pub(crate) fn answered(
     let mut out = MemSink::new(alloc, 4096, piece, outside.writes)?;
     let mut err = MemSink::new(alloc, 4096, piece, outside.tells)?;
     let status = mask_main(alloc, &words, &mut src, &mut out, &mut err);
-    Ok(Outcome { status, out, err })
+    Ok(Outcome {
+        status,
+        src,
+        out,
+        err,
+    })
 }
 
 /// Whether the top call does what a row says.

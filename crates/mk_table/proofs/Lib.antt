@@ -13,3 +13,6 @@ pub mod Unrolling
 pub mod Values
 pub mod Computed
 pub mod Products
+pub mod AlikeUnrolled
+pub mod Lengths
+pub mod Spelled

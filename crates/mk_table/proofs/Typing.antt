@@ -1,7 +1,7 @@
 -- The program of a table is well typed, and its execution comes to its end.
-use Rattle.std.proofs.Common.{◌≡◌, ℕ, zero, suc, ◌-◌, List, [], ◌∷◌, ◌++◌, map, flat_map, ap, ◌∙◌, codes}
+use Rattle.std.proofs.Common.{◌≡◌, ℕ, zero, suc, ◌-◌, List, [], ◌∷◌, ◌++◌, map, flat_map, refl, ap, ◌∙◌, codes}
 use Rattle.std.specs.Fmt.{digits}
-use Rattle.std.specs.List.{range_with_len}
+use Rattle.std.specs.List.{AllByRecursion, range_with_len}
 use Rattle.std.proofs.lemmas.List.{map-append}
 use Rattle.std.proofs.lemmas.Grind.{flat_map-append}
 use Rattle.mk_field.specs.declared.field.FieldId.TheVariants.{Gf256}
@@ -12,9 +12,11 @@ use Rattle.mk_types.specs.declared.offence.Offence.{Offence}
 use Rattle.mk_types.specs.declared.offence.OffenceKind.TheVariants as kind_
 use Rattle.mk_types.specs.Scope.{Scope}
 use Rattle.mk_types.specs.Offences.{when, is_no_bit, reference_offences, map_name_offences, expr_offences, target_offences, stmt_offences, decls_offences, scope_of, IsWellTyped}
-use Rattle.mk_types.specs.Units.{WorkUnit, Step, Operation, expr_units, stmt_units, parts_units, up_to_fault}
-use Rattle.mk_types.specs.Stops.{stop}
+use Rattle.mk_types.specs.Elements.{elements_of}
+use Rattle.mk_types.specs.Units.{WorkUnit, Step, Operation, expr_units, stmt_units, parts_units, up_to_fault, units}
+use Rattle.mk_types.specs.Stops.{operations, stop}
 use Rattle.mk_types.proofs.Layers.{expr-Lit, expr-Read, expr-Sq, expr-Apply, expr-Sum, expr-Product, stmt-Set}
+use Rattle.mk_types.proofs.Faults.{IsNoFault}
 use Rattle.mk_types.proofs.ExecutionLayers.{units-Lit, units-Read, units-Sq, units-Apply, units-Sum, units-Product, units-Set}
 use Rattle.mk_unroll.specs.Causes.{Ends}
 use Rattle.mk_table.specs.Classes.{leader_of, doublings, leaders, further_leaders}
@@ -22,7 +24,7 @@ use Rattle.mk_table.specs.Source.{start, map_name, power_name, source_decls, var
 use Rattle.mk_table.proofs.Lists.{flat_same, map_same}
 
 -- what is made of the statements, one after the other
-body_flat : {Y : Type 0} (f : Stmt → List Y) (one : List Y) (power : ℕ → List Y) (highest sum : List Y) (last first : ℕ)
+pub body_flat : {Y : Type 0} (f : Stmt → List Y) (one : List Y) (power : ℕ → List Y) (highest sum : List Y) (last first : ℕ)
     → f (set (power_name 1) (read (codes "x"))) ≡ one → ((k : ℕ) → f (power_stmt k) ≡ power k)
     → f (next_power (codes "q") 127 1) ≡ highest → f (set (codes "y") (polynomial last first)) ≡ sum
     → flat_map f (source_body last first) ≡ (one ++ flat_map power further_leaders) ++ (highest ++ (sum ++ []))
@@ -140,10 +142,30 @@ module _ (decls : List Decl) where
       ++ (units-Product decls [] (expr.Lit last start ∷ read (codes "q") ∷ []) ∙ (λ j. parts_units (units-Lit decls [] last start j ∷ units-Read decls [] (variable (codes "q")) j ∷ []))) i
       ∷ units-Lit decls [] first start i ∷ [])))
 
--- its execution comes to its end
-pub source_ends : (image : ℕ → ℕ → ℕ) (last first : ℕ) → Ends (source (of_bits image) last first)
-source_ends image last first =
+-- the units of the whole program
+abbrev pub whole_units : List Decl → List WorkUnit
+whole_units decls = (Step ∷ flat_map (λ k. next_units decls (doublings (k - 1))) further_leaders) ++ (next_units decls 1 ++ (sum_units decls ++ []))
+
+-- which it has
+pub source_works : (image : ℕ → ℕ → ℕ) (last first : ℕ) → units (source (of_bits image) last first) ≡ whole_units (source_decls (of_bits image))
+source_works image last first =
     let decls = source_decls (of_bits image) in
-    ap (λ us. stop (up_to_fault us))
+    ap up_to_fault
     (body_flat (λ t. stmt_units decls t []) _ (λ k. next_units decls (doublings (k - 1))) _ _ last first
     (first_works decls) (λ k. next_works decls (power_name k) (leader_of (k - 1)) (doublings (k - 1))) (next_works decls (codes "q") 127 1) (sum_works decls last first))
+
+-- none of them is a fault
+pub whole_faultless : (decls : List Decl) → AllByRecursion IsNoFault (whole_units decls)
+whole_faultless decls = search
+
+-- its execution comes to its end
+pub source_ends : (image : ℕ → ℕ → ℕ) (last first : ℕ) → Ends (source (of_bits image) last first)
+source_ends image last first = ap stop (source_works image last first)
+
+-- with 154 operations
+pub source_operations : (image : ℕ → ℕ → ℕ) (last first : ℕ) → operations (units (source (of_bits image) last first)) ≡ 154
+source_operations image last first = ap operations (source_works image last first)
+
+-- it declares 37 elements
+pub source_elements : (images : ℕ → List ℕ) (last first : ℕ) → elements_of (source images last first) ≡ 37
+source_elements images last first = refl

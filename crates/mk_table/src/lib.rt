@@ -10,6 +10,11 @@ mod program;
 #[cfg(test)]
 mod program_tests;
 mod source;
+mod text;
+
+/// How many elements a table has, one for each byte.
+pub const TABLE_BYTES: u32 = 256;
 
 pub use laws::interpolation_law;
 pub use program::program_of_table;
+pub use text::table_text;

@@ -1,9 +1,7 @@
 //! The texts of the programs of small tables, and of the S-box of FIPS 197.
 
-use crate::{interpolation_law, program_of_table};
-use mk_ast::to_text;
-use mk_base::{Bytes, Memory};
-use std::alloc::Global;
+use crate::{interpolation_law, table_text};
+use mk_base::Memory;
 
 // The S-box of FIPS 197, figure 7.
 static S_BOX: [u8; 256] = [
@@ -25,19 +23,13 @@ static S_BOX: [u8; 256] = [
     0x8c, 0xa1, 0x89, 0x0d, 0xbf, 0xe6, 0x42, 0x68, 0x41, 0x99, 0x2d, 0x0f, 0xb0, 0x54, 0xbb, 0x16,
 ];
 
-/// The canonical text of the program of a table.
-fn text_of(alloc: Global, table: &[u8; 256]) -> Result<Bytes, Memory> {
-    let program = program_of_table(alloc, table)?;
-    to_text(alloc, &program)
-}
-
 #[test]
 fn the_identity_has_one_map(rt: HostRuntime) -> Result<(), Memory> {
     let mut table = [0; 256];
     for a in 0..256 {
         table[a] = a as u8;
     }
-    let text = text_of(rt.alloc(), &table)?;
+    let text = table_text(rt.alloc(), &table)?;
     let begin =
         b"field gf256;\nmap l1 = 0x01, 0x02, 0x04, 0x08, 0x10, 0x20, 0x40, 0x80;\nmap l3 = 0x00,";
     assert!(rt; text.as_slice().starts_with(begin));
@@ -52,19 +44,22 @@ fn the_identity_has_one_map(rt: HostRuntime) -> Result<(), Memory> {
 #[test]
 fn a_value_at_zero_alone_is_in_two_coefficients(rt: HostRuntime) -> Result<(), Memory> {
     let mut table = [0; 256];
-    let zero = text_of(rt.alloc(), &table)?;
+    let zero = table_text(rt.alloc(), &table)?;
     assert!(rt; zero.as_slice().ends_with(b" + 0x00 * q + 0x00;\n"));
     table[0] = 0x35;
-    let one = text_of(rt.alloc(), &table)?;
+    let one = table_text(rt.alloc(), &table)?;
     assert!(rt; one.as_slice().ends_with(b" + 0x35 * q + 0x35;\n"));
     Ok(())
 }
 
 #[test]
 fn the_s_box_is_an_additive_map_of_one_power(rt: HostRuntime) -> Result<(), Memory> {
-    let text = text_of(rt.alloc(), &S_BOX)?;
+    let text = table_text(rt.alloc(), &S_BOX)?;
     let begin = b"field gf256;\nmap l1 = 0x00, 0x00, 0x00, 0x00, 0x00, 0x00, 0x00, 0x00;\n";
     assert!(rt; text.as_slice().starts_with(begin));
+    // Its polynomial is 05 x^254 + 09 x^253 + f9 x^251 + 25 x^247 + f4 x^239 + 01 x^223 + b5 x^191 + 8f x^127 + 63
+    // (Daemen and Rijmen, The Design of Rijndael), whose exponents are those of the class of 127 and 0. The images
+    // are worked out from these coefficients apart from this code.
     let map = b"map l127 = 0x1f, 0x7c, 0xf1, 0xc7, 0x28, 0xa0, 0xb5, 0xb8;\nsecret x;\n";
     assert!(rt;
         text.as_slice()

@@ -14,7 +14,7 @@ use Rattle.mk_words.specs.declared.fault.SourceFault.{SourceFault}
 use Rattle.mk_words.specs.declared.fault.SourceFault.TheVariants as source
 use Rattle.mk_words.specs.declared.fault.CheckFault.{CheckFault}
 use Rattle.mk_words.specs.declared.fault.CheckFault.TheVariants as check
-use Rattle.mk_words.specs.Words.{Command, Compile, Check, Eval, Run, Count, Report, Gen, Trial, GivenTape}
+use Rattle.mk_words.specs.Words.{Command, Compile, Check, Eval, Run, Count, Report, Gen, Trial, Table, GivenTape}
 use Rattle.mk_parse.proofs.Refusals.{one_place, one_program}
 use Rattle.mk_unroll.specs.Causes.{Cause}
 use Rattle.mk_ast.specs.declared.tree.Program.{Program as Tree}
@@ -30,6 +30,7 @@ use Rattle.mk_ast.specs.declared.refusal.SourceRefusal.TheVariants as refusal_
 use Rattle.mk_top.specs.Sources.{IsNoSource}
 use Rattle.mk_top.specs.Faults.{fault_of_source}
 use Rattle.mk_top.proofs.Tried.{trial-one}
+use Rattle.mk_top.proofs.Tabled.{table-one}
 use Rattle.mk_top.proofs.Causes.{cause-once, cause-outside}
 use Rattle.mk_top.specs.Decided.{refusal_of, PairDecides, BundleDecides, SourceDecides, CompileDecides, EvalDecides, RunDecides, CountDecides, TextDecides, Decides, limit_of}
 
@@ -84,6 +85,7 @@ data Sourced (decides : Tree → Option Fault → Type 0) (bytes : List ℕ) (an
   typed : (tree : Tree) → Spells tree bytes → IsWellTyped tree → decides tree answer → Sourced decides bytes answer
 
 module _ (decides : Tree → Option Fault → Type 0) (bytes : List ℕ) where
+  -- what the bytes decide of a source is the answer that was given
   sourced : (answer : Option Fault) → SourceDecides decides bytes answer → Sourced decides bytes answer
   sourced (Some (fault.Source (source.Syntax at))) d = refused at refl d.0 d.1
   sourced (Some (fault.Source (source.Unknown at))) d = offends d.0 (record { at = at; kind = kind_.Unknown }) d.1 refl d.2
@@ -218,6 +220,7 @@ module _ (differ : TextsDiffer) where
   text-one Report bytes a b first second = bundle-one PairDecides pair-one bytes a b (bundled PairDecides bytes a first) (bundled PairDecides bytes b second)
   text-one (Gen turns) bytes a b first second = first ∙ sym second
   text-one (Trial turns order) bytes a b first second = trial-one turns order a b first second
+  text-one Table bytes a b first second = table-one bytes a b first second
 
   -- the input of a command decides one answer
   pub decides-one : (command : Command) (bytes : List ℕ) (a b : Option Fault) → Decides command bytes a → Decides command bytes b → a ≡ b

@@ -1,5 +1,5 @@
 -- How a run ends, by its words, its input's bytes and the counts of faults.
-use Rattle.std.proofs.Common.{◌≡◌, ℕ, ◌<◌, ◌≤◌, List, [], ◌∷◌, Option, Some, None, IfSome, Result, Ok, Err, IfOk, IfErr, OnOk, length, inl, inr, refl, ap, sym, subst, arith}
+use Rattle.std.proofs.Common.{◌≡◌, ℕ, ◌<◌, ◌≤◌, List, [], ◌∷◌, Option, Some, None, IfSome, Result, Ok, Err, IfOk, IfErr, OnOk, length, inl, inr, refl, ap, sym, subst, ◌∙◌, arith}
 use Rattle.std.specs.Prelude.{option_map, codes}
 use Rattle.mk_base.specs.Outside.{Rose}
 use Rattle.mk_base.specs.Streams.{ReadsAll}
@@ -12,7 +12,7 @@ use Rattle.mk_top.specs.declared.answer.Answer.{Answer}
 use Rattle.mk_top.specs.declared.answer.Answer.TheVariants as answer
 use Rattle.mk_top.specs.declared.fault.Fault.{Fault}
 use Rattle.mk_top.specs.declared.fault.Fault.TheVariants as fault_
-use Rattle.mk_words.specs.Words.{Command, Compile, Check, Eval, Run, Count, Report, Gen, Trial, GivenTape, Seed, Tape, SaysElements, SaysTape, SaysProbes, Asks}
+use Rattle.mk_words.specs.Words.{Command, Compile, Check, Eval, Run, Count, Report, Gen, Trial, Table, GivenTape, Seed, Tape, SaysElements, SaysTape, SaysProbes, Asks}
 use Rattle.mk_words.specs.Forms.{AreElements, IsTapeForm, SaysTapeSo, AsksSo}
 use Rattle.mk_top.specs.Forms.{OfElements, OfRun, OfCount, IsGivenBy}
 use Rattle.mk_words.specs.declared.command.Form.{Form}
@@ -47,6 +47,7 @@ makes-decides words (Count ps one two qs) bytes written asks makes within =
 makes-decides words Report bytes written asks makes within = (within, (makes.code, makes.cert, text-told bytes makes.code makes.cert makes.bundle, makes.accepted))
 makes-decides words (Gen turns) bytes written asks makes within = (within, refl)
 makes-decides words (Trial turns order) bytes written asks makes within = (within, tries-decides turns order written asks.3.1 asks.3.2 makes)
+makes-decides words Table bytes written asks makes within = (within, ap (λ (bs : List ℕ). length bs) (sym makes.taken) ∙ makes.whole)
 
 module _ (words : List (List ℕ)) (input output : Seen) where
   -- a run that stopped under words that ask for a command stopped at this command
@@ -305,6 +306,7 @@ unmade-counted words word one two seen input (Err fault) asks none =
 module _ (word one two seen publics first second probes qs us xs ks : List ℕ) (P : Command → Type 0)
     (says : SaysElements word publics × SaysElements one first × SaysElements two second × SaysProbes seen probes)
     (same : (qs ≡ publics) × (us ≡ first) × (xs ≡ second) × (ks ≡ probes)) where
+  -- the facts of this count hold
   count-said : P (Count qs us xs ks) → OfCount word one two seen P
   count-said holds = (
     qs,
@@ -367,6 +369,7 @@ asked-leaves words (form.Count publics first second probes) left asks leaves =
 asked-leaves words form.Report left asks leaves = inr (Report, asks, inl tt)
 asked-leaves words (form.Gen turns) left asks leaves = inr (Gen turns, asks, inr leaves)
 asked-leaves words (form.Trial turns order) left asks leaves = inr (Trial turns order, asks, inr leaves)
+asked-leaves words form.Table left asks leaves = inr (Table, asks, inl tt)
 
 -- a command that reads nothing left its input
 pub left-unread : (words : List (List ℕ)) (command : Command) (left : Type 0) → ReadsOrLeaves words left → Asks words command → (Reads command → ⊥) → left

@@ -17,7 +17,7 @@ use Rattle.mk_bundle.specs.declared.event.Event.{Event}
 use Rattle.mk_bundle.specs.declared.event.Event.TheVariants as event
 use Rattle.mk_bundle.specs.Events.{head_of, outs_of, outputs_of, events_of, AreFirst}
 use Rattle.mk_bundle.specs.Gathering.{Gathered, nothing, gather, gather_all}
-use Rattle.mk_bundle.proofs.Complete.{All-append}
+use Rattle.mk_lines.proofs.ByLines.{All-append}
 use Rattle.mk_bundle.proofs.Gathering.{gather_append, gather_events, gather_more}
 use Rattle.mk_top.specs.Reading.{IsUpper}
 
@@ -54,6 +54,7 @@ blocks-upper : (ops : List Op) → AllByRecursion IsUpper (map event.Block ops)
 blocks-upper [] = tt
 blocks-upper (o ∷ os) = (tt, blocks-upper os)
 
+-- the events of claims stand in the upper part of a text
 claims-upper : (vs : List Operand) → AllByRecursion IsUpper (map event.Claim vs)
 claims-upper [] = tt
 claims-upper (v ∷ vs) = (tt, claims-upper vs)
@@ -165,6 +166,7 @@ gathers-instrs g (event.Instr i ∷ es) =
 gathers-instrs g (event.Out positions ∷ es) = gathers-instrs (gather g (event.Out positions)) es
 gathers-instrs g (event.End ∷ es) = gathers-instrs g es
 
+-- the positions of outs that come are put behind those so far
 gathers-outs : (g : Gathered) (es : List Event) → (more : List ℕ) × ((gather_all g es).outs ≡ g.outs ++ more)
 unfolding gather_all
 gathers-outs g [] = ([], sym (append-nil g.outs))

@@ -7,7 +7,7 @@ use Rattle.mk_base.specs.Outside.{Rose}
 use Rattle.mk_base.specs.Streams.{ReadsAll, CameWithin}
 use Rattle.mk_top.specs.declared.fault.Fault.{Fault}
 use Rattle.mk_top.specs.declared.fault.Fault.TheVariants as fault_
-use Rattle.mk_words.specs.Words.{Command, Compile, Check, Eval, Run, Count, Report, Gen, Trial, GivenTape}
+use Rattle.mk_words.specs.Words.{Command, Compile, Check, Eval, Run, Count, Report, Gen, Trial, Table, GivenTape}
 use Rattle.mk_code.specs.Listing.{Listing}
 use Rattle.mk_code.specs.Private.{Private}
 use Rattle.mk_rules.specs.Claimed.{Claimed}
@@ -49,6 +49,7 @@ use Rattle.mk_top.specs.Running.{NotMade, Made, NoText, NoBundle, TakesBundle}
 use Rattle.mk_top.proofs.Bundles.{of-given, text-given}
 use Rattle.mk_top.proofs.Counted.{counts-given}
 use Rattle.mk_top.proofs.Reported.{reports-given}
+use Rattle.mk_top.proofs.Tabled.{tabulates-given}
 use Rattle.mk_top.proofs.Causes.{IsLimitOrIndex, cause-kind}
 use Rattle.mk_top.proofs.Texts.{short-text}
 
@@ -122,6 +123,7 @@ makes-given (Count ps one two qs) given after bytes written read makes = counts-
 makes-given Report given after bytes written read makes = reports-given given after bytes written read makes
 makes-given (Gen turns) given after bytes written read makes = makes
 makes-given (Trial turns order) given after bytes written read makes = makes
+makes-given Table given after bytes written read makes = tabulates-given given after bytes written read makes
 
 -- so the text that is made of what was read is the command's
 pub made-given : (command : Command) (input : Seen) (bytes : List ℕ) (r : Result (List ℕ) Fault)
@@ -195,6 +197,8 @@ answer-of Report bytes f decides = absurd decides.3
 answer-of (Gen turns) bytes f decides = absurd cc
 answer-of (Trial turns order) bytes (fault_.Source why) decides = tt
 answer-of (Trial turns order) bytes f decides = absurd decides
+answer-of Table bytes (fault_.Inputs why) decides = tt
+answer-of Table bytes f decides = absurd decides
 
 -- a fault that the bytes of the text decide, said of the input
 text-decides : (command : Command) (input : Seen) (bytes : List ℕ) (fault : Fault)
@@ -365,6 +369,7 @@ no_bundle input why rose denies (Compile order) takes = absurd takes
 no_bundle input why rose denies (Eval ps ss) takes = absurd takes
 no_bundle input why rose denies (Gen turns) takes = absurd takes
 no_bundle input why rose denies (Trial turns order) takes = absurd takes
+no_bundle input why rose denies Table takes = absurd takes
 
 -- what a command makes of the text of a bundle that was read to its end
 pub made-collected : (command : Command) (input : Seen) (bundle : Bundle) (r : Result (List ℕ) Fault) → TakesBundle command
@@ -382,6 +387,7 @@ made-collected (Compile order) input bundle r takes read makes = absurd takes
 made-collected (Eval ps ss) input bundle r takes read makes = absurd takes
 made-collected (Gen turns) input bundle r takes read makes = absurd takes
 made-collected (Trial turns order) input bundle r takes read makes = absurd takes
+made-collected Table input bundle r takes read makes = absurd takes
 
 -- and why it makes nothing of it
 pub no_text-collected : {X : Type 0} (command : Command) (input : Seen) (bundle : Bundle) (r : Result X Fault) → TakesBundle command
@@ -399,3 +405,4 @@ no_text-collected (Compile order) input bundle r takes read why = absurd takes
 no_text-collected (Eval ps ss) input bundle r takes read why = absurd takes
 no_text-collected (Gen turns) input bundle r takes read why = absurd takes
 no_text-collected (Trial turns order) input bundle r takes read why = absurd takes
+no_text-collected Table input bundle r takes read why = absurd takes

@@ -14,7 +14,7 @@ use Rattle.mk_bundle.specs.Gathering.{Gathered, nothing, gather, gather_all, cod
 use Rattle.mk_bundle.proofs.Gathering.{gather_more, gather_pair}
 use Rattle.mk_check.specs.Given.{Checking, Given}
 use Rattle.mk_check.specs.Outlines.{IsOver}
-use Rattle.mk_top.specs.Reading.{Reading, ReadsWhole, GivesCertificate, IsHeadOf, IsBegun}
+use Rattle.mk_top.specs.Reading.{Reading, GivesBundle, GivesCertificate, IsHeadOf, IsBegun}
 use Rattle.mk_top.proofs.Events.{IsLower, coded-next, gathered-few, outs-few}
 
 -- the events so far
@@ -37,6 +37,7 @@ module _ (before now : Option (List ℕ)) (reader : Reader) (checker : Checking)
   room-instrs =
       subst (λ (g : Gathered). length g.instrs ≤ MOST_INSTRS) gathered-next (gathered-few b.head (((b.upper ++ event.Code ∷ []) ++ b.lower) ++ e ∷ []) first).0
 
+  -- and for the positions of outs
   pub room-outs : length (gather b.gathered e).outs ≤ MOST_INPUTS * (checker.outline.order + 1)
   room-outs =
       subst (λ (n : ℕ). length (gather b.gathered e).outs ≤ MOST_INPUTS * (n + 1)) b.over.order
@@ -91,7 +92,7 @@ outs-room before now reader checker b at first =
 
 -- at the end, the code whose text was read is over what the checker is over, and was given to it, with its certificate
 pub judged-code : (before now after : Option (List ℕ)) (reader : Reader) (checker : Checking) (b : IsBegun before now reader checker)
-    → (w : ReadsWhole before after (event.Head b.head ∷ ((b.upper ++ event.Code ∷ []) ++ b.lower)))
+    → (w : GivesBundle before after (event.Head b.head ∷ ((b.upper ++ event.Code ∷ []) ++ b.lower)))
     → IsOver w.code checker.outline × Given checker w.code.instrs w.code.outs × (checker.cert ≡ w.cert)
 judged-code before now after reader checker b w =
     let pair = gather_pair w.code w.cert (event.Head b.head ∷ ((b.upper ++ event.Code ∷ []) ++ b.lower)) b.gathered w.text.0.listing w.gave b.gives in

@@ -10,5 +10,6 @@ pub mod Deciding
 pub mod Ends
 pub mod Lines
 pub mod Tried
+pub mod Tabled
 pub mod Counted
 pub mod Reported

@@ -28,7 +28,7 @@ use Rattle.mk_words.specs.Words.{Check}
 use Rattle.mk_top.specs.declared.fault.Fault.{Fault}
 use Rattle.mk_top.specs.Faults.{fault_of_bundle, fault_of_check}
 use Rattle.mk_top.specs.Seen.{Seen}
-use Rattle.mk_top.specs.Reading.{Reading, ReadsWhole, IsInput}
+use Rattle.mk_top.specs.Reading.{Reading, GivesBundle, IsInput}
 use Rattle.mk_top.specs.Running.{NoBundle, NotMade, NoText, Made, Checked}
 use Rattle.mk_top.proofs.Bundles.{text-given}
 use Rattle.mk_top.proofs.Given.{no_bundle, came-whole, no_text-given, read-given}
@@ -49,7 +49,7 @@ reading-next before now after old new e events r same h = record {
 
 -- the last event was answered
 pub reading-whole : (before now after : Option (List ℕ)) (old new : Reader) (e : Event) (events : List Event) (r : Reading before now old events)
-    → new.limit ≡ old.limit → Answers e new r.taken events now after → e ≡ event.End → ReadsWhole before after events
+    → new.limit ≡ old.limit → Answers e new r.taken events now after → e ≡ event.End → GivesBundle before after events
 reading-whole before now after old new e events r same h is =
     let done = last_completes e new r.taken events now after is h in
     let comes = comes_more before now after r.taken h.came r.comes h.comes in
@@ -78,7 +78,7 @@ reading-denied input now old new events why r same denies rose =
     (subst (λ (n : ℕ). Denies why n r.taken now input.after) (same ∙ r.limit) denies))
 
 -- a bundle that the rule refuses has no text
-pub refused-text : (input : Seen) (events : List Event) (w : ReadsWhole input.before input.after events) (e : CheckRefusal) → IsRefused w.code w.cert e
+pub refused-text : (input : Seen) (events : List Event) (w : GivesBundle input.before input.after events) (e : CheckRefusal) → IsRefused w.code w.cert e
     → NoText Check input (fault_of_check e)
 refused-text input events w e is = no_text-given {X = List ℕ} Check input w.bytes (Err (fault_of_check e)) w.within w.whole (by e is)
   where
@@ -90,7 +90,7 @@ refused-text input events w e is = no_text-given {X = List ℕ} Check input w.by
     by refused.Memory h = tt
 
 -- a bundle that the rule accepts was checked
-pub accepted-text : (before after : Option (List ℕ)) (events : List Event) (w : ReadsWhole before after events) → IsAccepted w.code w.cert → Checked before after
+pub accepted-text : (before after : Option (List ℕ)) (events : List Event) (w : GivesBundle before after events) → IsAccepted w.code w.cert → Checked before after
 accepted-text before after events w is = record {
   bytes = w.bytes;
   code = w.code;

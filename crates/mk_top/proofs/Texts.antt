@@ -20,11 +20,11 @@ use Rattle.mk_rules.specs.Claimed.{Claimed}
 use Rattle.mk_lines.specs.Words.{operand_word, line}
 use Rattle.mk_field.specs.Digits.{hex_byte}
 use Rattle.mk_lines.specs.CertLines.{op_line, claim_line}
-use Rattle.mk_lines.specs.CodeLines.{map_line, instr_line, position_word, out_line, out_lines}
+use Rattle.mk_lines.specs.CodeLines.{field_line, map_line, instr_line, position_word, out_line, out_lines}
 use Rattle.mk_ssa.specs.Widths.{OperandFits, OpFits}
 use Rattle.mk_field.specs.Maps.{MapFits}
 use Rattle.mk_bundle.specs.declared.TheConstants.{MOST_BYTES}
-use Rattle.mk_bundle.specs.Text.{text, head_lines, field_line, number_line}
+use Rattle.mk_bundle.specs.Text.{text, head_lines, number_line}
 use Rattle.mk_rules.specs.Pairs.{IsPair}
 
 -- lists of at most m elements, one for each of these things, have together at most m for each

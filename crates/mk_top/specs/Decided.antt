@@ -21,17 +21,19 @@ use Rattle.mk_unroll.specs.Causes.{Cause}
 use Rattle.mk_eval.specs.Refusals.{refusal}
 use Rattle.mk_run.specs.Refusals.{count_refusal, whole_refusal}
 use Rattle.mk_compile.specs.Compiled.{IsWithin}
-use Rattle.mk_words.specs.Words.{Command, Compile, Check, Eval, Run, Count, Report, Gen, Trial, GivenTape}
+use Rattle.mk_table.specs.declared.TheConstants.{TABLE_BYTES}
+use Rattle.mk_words.specs.Words.{Command, Compile, Check, Eval, Run, Count, Report, Gen, Trial, Table, GivenTape}
 use Rattle.mk_top.specs.declared.fault.Fault.{Fault}
 use Rattle.mk_top.specs.declared.fault.Fault.TheVariants as fault
 use Rattle.mk_words.specs.declared.fault.SourceFault.TheVariants as source
+use Rattle.mk_words.specs.declared.fault.InputFault.TheVariants as input
 use Rattle.mk_words.specs.declared.fault.CheckFault.{CheckFault}
 use Rattle.mk_words.specs.declared.fault.CheckFault.TheVariants as check
 use Rattle.mk_top.specs.Sources.{HasFirstOffence, IsNoSource}
 use Rattle.mk_top.specs.Faults.{fault_of_eval, fault_of_run, fault_of_count}
 use Rattle.mk_top.specs.Runs.{tape_of}
 
--- the most bytes that a command reads: of a source, of a bundle, and none
+-- the most bytes that a command reads: of a source, of a bundle, of a table, and none
 abbrev pub limit_of : Command → ℕ
 limit_of (Compile order) = MOST_SOURCE_BYTES
 limit_of Check = MOST_BYTES
@@ -41,6 +43,7 @@ limit_of (Count publics first second probes) = MOST_BYTES
 limit_of Report = MOST_BYTES
 limit_of (Gen turns) = 0
 limit_of (Trial turns order) = 0
+limit_of Table = TABLE_BYTES
 
 -- the refusal of the checker that a fault tells
 abbrev pub refusal_of : CheckFault → CheckRefusal
@@ -100,6 +103,12 @@ TrialDecides turns order None = 5 * turns * ((order + 1) * (order + 1)) ≤ MOST
 TrialDecides turns order (Some (fault.Source (source.Large limit_.Size))) = MOST_SIZE < 5 * turns * ((order + 1) * (order + 1))
 TrialDecides turns order (Some _) = ⊥
 
+-- the answer that the bytes of a table decide: they are as many as it has, or fewer
+abbrev pub TableDecides : List ℕ → Option Fault → Type 0
+TableDecides bytes None = length bytes ≡ TABLE_BYTES
+TableDecides bytes (Some (fault.Inputs (input.Length given wanted))) = (given ≡ length bytes) × (wanted ≡ TABLE_BYTES) × (length bytes < TABLE_BYTES)
+TableDecides bytes (Some _) = ⊥
+
 -- the answer that the bytes within the limit decide
 abbrev pub TextDecides : Command → List ℕ → Option Fault → Type 0
 TextDecides (Compile order) bytes answer = SourceDecides (CompileDecides order) bytes answer
@@ -110,6 +119,7 @@ TextDecides (Count publics first second probes) bytes answer = BundleDecides (Co
 TextDecides Report bytes answer = BundleDecides PairDecides bytes answer
 TextDecides (Gen turns) bytes answer = answer ≡ None
 TextDecides (Trial turns order) bytes answer = TrialDecides turns order answer
+TextDecides Table bytes answer = TableDecides bytes answer
 
 -- the answer that the bytes of the input decide under a command: no fault, or this one
 abbrev pub Decides : Command → List ℕ → Option Fault → Type 0

@@ -1,4 +1,5 @@
 pub mod Sources
+pub mod Tables
 pub mod Forms
 pub mod Seen
 pub mod Bundles

@@ -24,7 +24,7 @@ pub record Reading (before now : Option (List ℕ)) (reader : Reader) (events : 
   pub limit : reader.limit ≡ MOST_BYTES
 
 -- the input was read to its end, and gave the text of the pair of these events and the last one
-pub record ReadsWhole (before after : Option (List ℕ)) (events : List Event) : Type 0 where
+pub record GivesBundle (before after : Option (List ℕ)) (events : List Event) : Type 0 where
   pub bytes : List ℕ
   pub code : Listing
   pub cert : Claimed
@@ -33,7 +33,8 @@ pub record ReadsWhole (before after : Option (List ℕ)) (events : List Event) :
   pub within : length bytes ≤ MOST_BYTES
   pub whole : IfSome before (λ rest. ReadsAll rest bytes after)
 
--- an input as it is seen behind a part of its reading: it had no more faults before than before this part
+-- an input was seen around a whole reading that a part ended: this part found `faults` counted, at least as many as were at the
+-- beginning, and left these bytes and so many faults, which are those that are seen in the end
 pub record IsInput (input : Seen) (faults : ℕ) (left : Option (List ℕ)) (counted : ℕ) : Type 0 where
   pub fewer : input.faults ≤ faults
   pub after : input.after ≡ left

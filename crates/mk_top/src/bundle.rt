@@ -6,7 +6,7 @@ ghost use Rattle.mk_bundle.specs.Events.{AreFirst};
 ghost use Rattle.mk_bundle.specs.declared.event.Event.{Event};
 ghost use Rattle.mk_bundle.specs.declared.event.Event.TheVariants as event;
 ghost use Rattle.mk_words.specs.Words.{Check};
-ghost use Rattle.mk_top.specs.Reading.{Reading, ReadsWhole, IsInput, GivesCertificate, IsBegun};
+ghost use Rattle.mk_top.specs.Reading.{Reading, GivesBundle, IsInput, GivesCertificate, IsBegun};
 ghost use Rattle.mk_top.specs.Seen.{Seen, seen};
 ghost use Rattle.mk_top.specs.Running.{Made, NoText, NoBundle, Checked};
 
@@ -26,7 +26,7 @@ fn next_event<S: Source>(reader: &mut BundleReader, src: &mut S) -> Result<Event
     ensures first { (before : Option (List ℕ)) (events : List Event) → Reading before (S.left src.old) reader.old events
         → IfOk result (λ e. AreFirst (events ++ e ∷ [])) }
     ensures whole { (before : Option (List ℕ)) (events : List Event) → Reading before (S.left src.old) reader.old events
-        → IfOk result (λ e. e ≡ event.End → ReadsWhole before (S.left src.new) events) }
+        → IfOk result (λ e. e ≡ event.End → GivesBundle before (S.left src.new) events) }
     ensures fault { (input : Seen) (events : List Event)
         → IsInput input (S.faults src.old) (S.left src.new) (S.faults src.new)
         → Reading input.before (S.left src.old) reader.old events → IfErr result (NoBundle input) }

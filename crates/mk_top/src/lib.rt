@@ -1,6 +1,6 @@
 //! The top call: it carries out the command that its words ask for, `compile`, `check`, `eval`, `run`, `count`,
-//! `report`, `gen` or `trial`, from the bytes that are read to the bytes that are written, and promises what the
-//! answer means.
+//! `report`, `gen`, `trial` or `table`, from the bytes that are read to the bytes that are written, and promises what
+//! the answer means.
 #![tactic(auto)]
 
 mod answer;
@@ -12,6 +12,7 @@ mod reading;
 mod reports;
 mod runs;
 mod source;
+mod tables;
 mod top;
 mod trials;
 

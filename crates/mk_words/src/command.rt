@@ -44,6 +44,8 @@ pub enum Form<'a> {
         turns: u32,
         order: u8,
     },
+    /// To write a source that gives the elements of a table.
+    Table,
 }
 
 /// Where a tape comes from, with its word of elements as it stands.
@@ -87,6 +89,9 @@ fn one_word<'a>(name: &[u8]) -> Option<Form<'a>>
     }
     if name == b"report".as_slice() {
         return Some(Form::Report);
+    }
+    if name == b"table".as_slice() {
+        return Some(Form::Table);
     }
     None
 }

@@ -29,13 +29,13 @@ loop-instr-init c =
       room = omega (arith, e, next);
       few = omega (arith, e, next);
       wide = omega (arith, e, next);
-      count = ap length c.in_ok-place_inputs.ensures.place ∙ length-range_with_len 0 entries ∙ e ∙ omega arith;
+      count = ap length c.in_ok-place_inputs.ensures.registers ∙ length-range_with_len 0 entries ∙ e ∙ omega arith;
       done = ap length c.in_ok-allocated.ensures.items;
       parts = subst (AllByRecursion (λ (i : RegInstr). HasParts code.field (length code.maps) (operation i))) (sym c.in_ok-allocated.ensures.items) tt;
       so_far = λ registers enough.
-          begun code registers entries c.place_inputs.new.free.next c.in_ok-last.last.items c.as_slice.result.now c.place_inputs.new.place.items
+          begun code registers entries c.place_inputs.new.free.next c.in_ok-last.last.items c.as_slice.result.now c.place_inputs.new.register_of.items
           c.in_ok-allocated.allocated.items (heap_items c.in_ok-free.free.heap) (heap_items c.place_inputs.new.free.heap)
-          c.in_ok-last.ensures e next c.as_slice.ensures.value c.in_ok-place_inputs.ensures.place c.in_ok-allocated.ensures.items c.in_ok-free.ensures.0
+          c.in_ok-last.ensures e next c.as_slice.ensures.value c.in_ok-place_inputs.ensures.registers c.in_ok-allocated.ensures.items c.in_ok-free.ensures.0
           c.in_ok-place_inputs.ensures.free enough;
     }
 
@@ -65,7 +65,7 @@ loop-instr-preserved c =
     let own : c.as_slice-instrs.result.now ≡ code.instrs = c.as_slice-instrs.ensures.items ∙ c.instrs.ensures in
     let below : k < length code.instrs = omega (arith, ap length own, c.loop-instr-test.true) in
     let last = c.in_ok-last.last.items in
-    let places = c.loop-instr.place.items in
+    let register_of = c.loop-instr.register_of.items in
     let done = c.loop-instr.allocated.items in
     let to = c.take-to.result in
     let items = heap_items c.loop-instr.free.heap in
@@ -75,40 +75,40 @@ loop-instr-preserved c =
     let next = c.loop-instr.free.next in
     let behind = c.take-to.new.self.next in
     let from : c.loop-instr.behind + 1 ≡ k + 1 = omega (arith, c.loop-instr.invariant.behind) in
-    let came = came-free code k (c.loop-instr.behind + 1) places c.as_slice-in-loop-instr-2.result.now last c.as_slice-in-loop-instr-3.result.now c.as_slice-instrs.result.now items before
+    let came = came-free code k (c.loop-instr.behind + 1) register_of c.as_slice-in-loop-instr-2.result.now last c.as_slice-in-loop-instr-3.result.now c.as_slice-instrs.result.now items before
     own c.as_slice-in-loop-instr-2.ensures.value c.as_slice-in-loop-instr-3.ensures.value from c.in_ok-free_operands.ensures.free in
     let taken : IsTaken before after next behind to = subst (λ (n : ℕ). IsTaken before after n behind to) c.in_ok-free_operands.ensures.next c.take-to.ensures in
     let moved = taken-next before after next behind to taken in
-    let len : c.len-in-loop-instr.result ≡ position = omega (arith, c.len-in-loop-instr.ensures, c.loop-instr.place.ok.0, c.loop-instr.invariant.count) in
+    let len : c.len-in-loop-instr.result ≡ position = omega (arith, c.len-in-loop-instr.ensures, c.loop-instr.register_of.ok.0, c.loop-instr.invariant.count) in
     let told : c.len-in-loop-instr.result < length last = omega (arith, len, below, c.in_ok-last.ensures.count) in
     let mark : c.index.result.now ≡ slice_index last position =
     get_or_read last c.len-in-loop-instr.result c.index.result.now told c.index.ensures 0 ∙ ap (slice_index last) len in
     let unread = came-unread k (c.loop-instr.behind + 1) c.index.result.now position to last after ends mark from c.in_ok-free_unread.ensures.free in
     let stays : c.free_unread.new.free.next ≡ behind = c.in_ok-free_unread.ensures.next in
-    let made_instr : c.new-in-loop-instr.result ≡ into_register to (with_operands (slice_index places) (instr_at code k)) =
+    let made_instr : c.new-in-loop-instr.result ≡ into_register to (with_operands (slice_index register_of) (instr_at code k)) =
     c.new-in-loop-instr.ensures
     ∙ ap (into_register to) (c.over_registers-operation.ensures
     ∙ ap (λ (ps : List ℕ). with_operands (slice_index ps) (get_or c.as_slice-instrs.result.now k op.Rnd)) c.as_slice-in-loop-instr.ensures.value
-    ∙ ap (λ (is : List Instr). with_operands (slice_index places) (get_or is k op.Rnd)) own) in
-    let more : c.push-in-loop-instr.new.self.items ≡ done ++ into_register to (with_operands (slice_index places) (instr_at code k)) ∷ [] =
+    ∙ ap (λ (is : List Instr). with_operands (slice_index register_of) (get_or is k op.Rnd)) own) in
+    let more : c.push-in-loop-instr.new.self.items ≡ done ++ into_register to (with_operands (slice_index register_of) (instr_at code k)) ∷ [] =
     c.in_ok-push-2.ensures.items ∙ ap (λ (i : RegInstr). done ++ i ∷ []) made_instr in
-    let placed : c.push.new.self.items ≡ places ++ to ∷ [] = c.in_ok-push.ensures.items in
+    let placed : c.push.new.self.items ≡ register_of ++ to ∷ [] = c.in_ok-push.ensures.items in
     record {
       behind = from;
       room = omega (arith, stays, moved.0, c.loop-instr.invariant.room);
       few = omega (arith, stays, moved.1, c.loop-instr.invariant.few);
       wide = subst (λ (n : ℕ). n ≤ width code) (sym stays)
-          (next-width code k last places done items before after next behind to c.law.ensures.fits c.in_ok-last.ensures below
+          (next-width code k last register_of done items before after next behind to c.law.ensures.fits c.in_ok-last.ensures below
           (c.loop-instr.invariant.so_far (next + 1) (omega arith)) came taken c.loop-instr.invariant.wide);
-      count = ap length placed ∙ length_push places to ∙ omega (arith, c.loop-instr.invariant.count);
-      done = ap length more ∙ length_push done (into_register to (with_operands (slice_index places) (instr_at code k))) ∙ omega (arith, c.loop-instr.invariant.done);
+      count = ap length placed ∙ length_push register_of to ∙ omega (arith, c.loop-instr.invariant.count);
+      done = ap length more ∙ length_push done (into_register to (with_operands (slice_index register_of) (instr_at code k))) ∙ omega (arith, c.loop-instr.invariant.done);
       parts = subst (AllByRecursion (λ (i : RegInstr). HasParts code.field (length code.maps) (operation i))) (sym more)
-          (parts-step code k to places done c.law.ensures.fits below c.loop-instr.invariant.parts);
+          (parts-step code k to register_of done c.law.ensures.fits below c.loop-instr.invariant.parts);
       so_far = λ registers enough.
           subst (λ (n : ℕ). IsSoFar code (k + 1) registers c.push-in-loop-instr.new.self.items c.push.new.self.items ends n) (sym stays)
           (subst (λ (ps : List ℕ). IsSoFar code (k + 1) registers c.push-in-loop-instr.new.self.items ps ends behind) (sym placed)
-          (subst (λ (is : List RegInstr). IsSoFar code (k + 1) registers is (places ++ to ∷ []) ends behind) (sym more)
-          (so_far-step code k registers last places done items before after ends next behind to c.law.ensures.fits c.in_ok-last.ensures below
+          (subst (λ (is : List RegInstr). IsSoFar code (k + 1) registers is (register_of ++ to ∷ []) ends behind) (sym more)
+          (so_far-step code k registers last register_of done items before after ends next behind to c.law.ensures.fits c.in_ok-last.ensures below
           (c.loop-instr.invariant.so_far registers (omega (arith, stays, moved.0, enough))) came taken unread (omega (arith, stays, enough)))));
     }
 
@@ -118,13 +118,13 @@ new-requires-2 c =
     let own : c.as_slice-instrs.result.now ≡ code.instrs = c.as_slice-instrs.ensures.items ∙ c.instrs.ensures in
     let maps : c.in_ok-maps.maps ≡ code.maps = c.in_ok-maps.ensures ∙ c.maps.ensures in
     let ends : c.as_slice-3.result.now ≡ code.outs = c.as_slice-3.ensures.items ∙ c.outs.ensures in
-    let outs : c.in_ok-outs.outs ≡ map (slice_index c.loop-instr.place.items) code.outs =
+    let outs : c.in_ok-outs.outs ≡ map (slice_index c.loop-instr.register_of.items) code.outs =
     c.in_ok-outs.ensures ∙ ap (λ (ps : List ℕ). map (slice_index ps) c.as_slice-3.result.now) c.as_slice-2.ensures.value
-    ∙ ap (map (slice_index c.loop-instr.place.items)) ends in
+    ∙ ap (map (slice_index c.loop-instr.register_of.items)) ends in
     let count : length c.loop-instr.allocated.items ≡ length code.instrs = omega (arith, ap length own, c.loop-instr.invariant.done) in
     let few : c.loop-instr.free.next ≤ trace_len code = omega (arith, ap length own, c.loop-instr.invariant.few) in
     rw (c.field.ensures.value, c.order.ensures, c.secrets.ensures, c.publics.ensures, maps, c.from_vec.ensures, outs)
-    (made-fits code c.loop-instr.allocated.items c.loop-instr.place.items c.loop-instr.free.next c.law.ensures.fits
+    (made-fits code c.loop-instr.allocated.items c.loop-instr.register_of.items c.loop-instr.free.next c.law.ensures.fits
     c.loop-instr.invariant.room few count c.loop-instr.invariant.parts)
 
 pub returns-clause-allocated : goal.returns-clause-allocated
@@ -133,13 +133,13 @@ returns-clause-allocated c =
     let own : c.as_slice-instrs.result.now ≡ code.instrs = c.as_slice-instrs.ensures.items ∙ c.instrs.ensures in
     let maps : c.in_ok-maps.maps ≡ code.maps = c.in_ok-maps.ensures ∙ c.maps.ensures in
     let ends : c.as_slice-3.result.now ≡ code.outs = c.as_slice-3.ensures.items ∙ c.outs.ensures in
-    let outs : c.in_ok-outs.outs ≡ map (slice_index c.loop-instr.place.items) code.outs =
+    let outs : c.in_ok-outs.outs ≡ map (slice_index c.loop-instr.register_of.items) code.outs =
     c.in_ok-outs.ensures ∙ ap (λ (ps : List ℕ). map (slice_index ps) c.as_slice-3.result.now) c.as_slice-2.ensures.value
-    ∙ ap (map (slice_index c.loop-instr.place.items)) ends in
-    let same : c.new-2.result ≡ made code c.loop-instr.free.next c.loop-instr.allocated.items c.loop-instr.place.items =
+    ∙ ap (map (slice_index c.loop-instr.register_of.items)) ends in
+    let same : c.new-2.result ≡ made code c.loop-instr.free.next c.loop-instr.allocated.items c.loop-instr.register_of.items =
     rw (c.field.ensures.value, c.order.ensures, c.secrets.ensures, c.publics.ensures, maps, c.from_vec.ensures, outs) at c.new-2.ensures in
     subst (IsAllocated code) (sym same)
-    (allocated code c.loop-instr.allocated.items c.loop-instr.place.items (heap_items c.loop-instr.free.heap) c.loop-instr.free.next c.loop-instr.instr-index
+    (allocated code c.loop-instr.allocated.items c.loop-instr.register_of.items (heap_items c.loop-instr.free.heap) c.loop-instr.free.next c.loop-instr.instr-index
     c.law.ensures.fits (omega (arith, ap length own)) (omega (arith, ap length own))
     (c.loop-instr.invariant.so_far c.loop-instr.free.next (omega arith)) c.loop-instr.invariant.room c.loop-instr.invariant.wide)
 

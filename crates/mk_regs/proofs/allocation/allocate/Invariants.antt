@@ -14,9 +14,9 @@ invariant-loop-instr l = record {
   room : inputs_len l.fn.code.order l.fn.code.secrets l.fn.code.publics ≤ l.free.next;
   few : l.free.next ≤ inputs_len l.fn.code.order l.fn.code.secrets l.fn.code.publics + l.instr-index;
   wide : l.free.next ≤ width l.fn.code;
-  count : length l.place.items ≡ inputs_len l.fn.code.order l.fn.code.secrets l.fn.code.publics + l.instr-index;
+  count : length l.register_of.items ≡ inputs_len l.fn.code.order l.fn.code.secrets l.fn.code.publics + l.instr-index;
   done : length l.allocated.items ≡ l.instr-index;
   parts : AllByRecursion (λ i. HasParts l.fn.code.field (length l.fn.code.maps) (operation i)) l.allocated.items;
   so_far : (registers : ℕ) → l.free.next ≤ registers
-      → IsSoFar l.fn.code l.instr-index registers l.allocated.items l.place.items (heap_items l.free.heap) l.free.next;
+      → IsSoFar l.fn.code l.instr-index registers l.allocated.items l.register_of.items (heap_items l.free.heap) l.free.next;
 }

@@ -2,7 +2,7 @@
 use Rattle.std.proofs.Common.{◌≡◌, ℕ, ◌+◌, List, Option, None, map, sym, ◌∙◌, ap, arith}
 use Rattle.mk_regs.specs.declared.instr.RegInstr.{RegInstr}
 use Rattle.mk_regs.specs.Form.{entries_len}
-use Rattle.mk_regs.specs.Renaming.{place, held_on_entry, held_behind, held_at_end, renamed_instrs, renamed, first_refusal, refusal_of}
+use Rattle.mk_regs.specs.Renaming.{position_in, held_on_entry, held_behind, held_at_end, renamed_instrs, renamed, first_refusal, refusal_of}
 use Rattle.mk_regs.specs.Renamer.{Renaming}
 use Rattle.mk_regs.proofs.Renames.{renamed-fits}
 use Rattle.mk_regs.proofs.rename.rename_back.Goals as goal
@@ -28,8 +28,8 @@ new-requires-2 c =
     ∙ ap (λ (n : ℕ). held_behind start.held n r.instrs) zero in
     let outs : c.in_ok-outs.outs ≡ (renamed r).outs =
     c.in_ok-outs.ensures.renamed
-    ∙ ap (λ (h : List (Option ℕ)). map (place h) c.as_slice-2.result.now) held
-    ∙ ap (map (place (held_at_end r))) ends in
+    ∙ ap (λ (h : List (Option ℕ)). map (position_in h) c.as_slice-2.result.now) held
+    ∙ ap (map (position_in (held_at_end r))) ends in
     let none : refusal_of r ≡ None =
     ap (λ (qs : List ℕ). first_refusal (entries_len r) 0 start.held r.instrs qs) (sym ends)
     ∙ ap (λ (is : List RegInstr). first_refusal (entries_len r) 0 start.held is c.as_slice-2.result.now) (sym own)

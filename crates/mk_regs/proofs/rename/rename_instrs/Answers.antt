@@ -10,7 +10,7 @@ use Rattle.mk_regs.proofs.rename.rename_instrs.Goals as goal
 
 pub returns-in_err-over_positions-clause-refused : goal.returns-in_err-over_positions-clause-refused
 returns-in_err-over_positions-clause-refused c =
-    let p = err_from_is_err_and c.from_residual.result c.from_residual.ensures.1 in
+    let p = err_from_is_err_and c.from_residual-in_err-over_positions.result c.from_residual-in_err-over_positions.ensures.1 in
     let told = c.in_err-over_positions.ensures.refused in
     rw (p.1, p.2) (inr (λ outs. c.loop-instr.invariant.refusal outs
     ∙ refusal-here c.args.renamer.now.entries c.loop-instr.renamer.accepted c.loop-instr.renamer.held c.args.instrs.now outs c.loop-instr.instr-index

@@ -2,7 +2,7 @@
 use Rattle.std.proofs.Common.{◌++◌, [], ◌∷◌, ℕ, List, map, take, inr, sym, ◌∙◌, ap, arith}
 use Rattle.std.proofs.lemmas.List.{map_more}
 use Rattle.std.proofs.lemmas.Result.{err_from_is_err_and}
-use Rattle.mk_regs.specs.Renaming.{place}
+use Rattle.mk_regs.specs.Renaming.{position_in}
 use Rattle.mk_regs.proofs.Renames.{outs-step, outs-refused, outs-end}
 use Rattle.mk_regs.proofs.rename.rename_outs.Goals as goal
 
@@ -13,8 +13,8 @@ loop-out-preserved c =
     let outs = c.args.outs.now in
     let i = c.loop-out.out-index in (
       c.in_ok-push.ensures.ok ∙ ap (λ (ps : List ℕ). ps ++ c.in_ok-position.position ∷ []) c.loop-out.invariant.0
-          ∙ ap (λ (p : ℕ). map (place held) (take i outs) ++ p ∷ []) c.in_ok-position.ensures.renamed
-          ∙ sym (map_more (place held) outs i 0 c.loop-out-test.true),
+          ∙ ap (λ (p : ℕ). map (position_in held) (take i outs) ++ p ∷ []) c.in_ok-position.ensures.renamed
+          ∙ sym (map_more (position_in held) outs i 0 c.loop-out-test.true),
       c.loop-out.invariant.1 ∙ outs-step held k outs i c.loop-out-test.true c.in_ok-position.ensures.accepted,
     )
 
@@ -24,7 +24,7 @@ returns-in_err-position-clause-refused c =
     let k = c.args.renamer.now.accepted in
     let outs = c.args.outs.now in
     let i = c.loop-out.out-index in
-    let p = err_from_is_err_and c.from_residual.result c.from_residual.ensures.1 in
+    let p = err_from_is_err_and c.from_residual-in_err-position.result c.from_residual-in_err-position.ensures.1 in
     let told = c.in_err-position.ensures.refused in
     rw (p.1, p.2) (inr (c.loop-out.invariant.1 ∙ outs-refused held k outs i c.in_err-position.field-0.0 c.loop-out-test.true told))
 

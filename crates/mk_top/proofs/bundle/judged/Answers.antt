@@ -9,7 +9,7 @@ use Rattle.mk_bundle.specs.declared.event.Event.TheVariants as event
 use Rattle.mk_bundle.specs.Events.{AreFirst}
 use Rattle.mk_words.specs.Words.{Check}
 use Rattle.mk_top.specs.declared.fault.Fault.{Fault}
-use Rattle.mk_top.specs.Reading.{Reading, ReadsWhole, IsBegun}
+use Rattle.mk_top.specs.Reading.{Reading, GivesBundle, IsBegun}
 use Rattle.mk_top.specs.Running.{NoText, Checked}
 use Rattle.mk_top.proofs.Events.{is-end}
 use Rattle.mk_top.proofs.Judging.{next-lower, begun-next, instrs-few, outs-room, judged-code}
@@ -100,8 +100,8 @@ returns-in_err-finish-in_default g c =
           let events = event.Head b.head ∷ ((b.upper ++ event.Code ∷ []) ++ b.lower) in
           let lower = next-lower input.before (g.S.Source.left c.loop-checker.src) c.loop-checker.reader c.loop-checker.checker b c.in_ok-instr.field-0 (c.in_ok-instr.ensures.first input.before events b.reading) in
           let end = is-end (c.loop-checker.checker.outline.order + 1) c.in_ok-instr.field-0 lower c.in_default.not-Instr c.in_default.not-Out in
-          let w : ReadsWhole input.before input.after events =
-          subst (λ (o : Option (List ℕ)). ReadsWhole input.before o events) (sym at.after) (c.in_ok-instr.ensures.whole input.before events b.reading end) in
+          let w : GivesBundle input.before input.after events =
+          subst (λ (o : Option (List ℕ)). GivesBundle input.before o events) (sym at.after) (c.in_ok-instr.ensures.whole input.before events b.reading end) in
           let j = judged-code input.before (g.S.Source.left c.loop-checker.src) input.after c.loop-checker.reader c.loop-checker.checker b w in
           subst (λ (x : Result (Unit {0}) Fault). IfErr x (NoText Check input)) (sym p.1)
           (subst (NoText Check input) (sym p.2)

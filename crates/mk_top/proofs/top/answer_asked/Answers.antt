@@ -1,6 +1,6 @@
 -- What is made is of the command that the words ask for.
 use Rattle.std.proofs.Common.{refl, subst}
-use Rattle.mk_words.specs.Words.{Compile, Check, Report, Gen, Trial}
+use Rattle.mk_words.specs.Words.{Compile, Check, Report, Gen, Trial, Table}
 use Rattle.mk_words.specs.Forms.{AsksSo}
 use Rattle.mk_words.specs.declared.command.Form.TheVariants as form
 use Rattle.mk_top.specs.declared.answer.Answer.TheVariants as answer
@@ -142,3 +142,20 @@ pub returns-in-Some-Count-clause-leaves : goal.returns-in-Some-Count-clause-leav
 returns-in-Some-Count-clause-leaves g c =
     asked-leaves c.args.words.now (form.Count c.in-Some-Count.publics c.in-Some-Count.first c.in-Some-Count.second c.in-Some-Count.probes) _
     (subst (AsksSo c.args.words.now) c.in-Some-Count.field-0-is (c.in-Some-Count.ensures).asked) tt
+
+pub returns-in-Some-Table-clause-made : goal.returns-in-Some-Table-clause-made
+returns-in-Some-Table-clause-made g c =
+    text-answered c.args.words.now _ c.tabulated_text.result c.text_answer-in-Some-Table.result c.text_answer-in-Some-Table.ensures
+    (made-asked c.args.words.now Table (seen g.S.Source.left g.S.Source.faults c.args.src.now c.tabulated_text.new.src) c.tabulated_text.result
+    (subst (AsksSo c.args.words.now) c.in-Some-Table.field-0-is (c.in-Some-Table.ensures).asked) c.tabulated_text.ensures.made)
+
+pub returns-in-Some-Table-clause-unmade : goal.returns-in-Some-Table-clause-unmade
+returns-in-Some-Table-clause-unmade g c =
+    fault-answered answer.Text _ c.tabulated_text.result c.text_answer-in-Some-Table.result c.text_answer-in-Some-Table.ensures
+    (unmade-asked c.args.words.now Table (seen g.S.Source.left g.S.Source.faults c.args.src.now c.tabulated_text.new.src) c.tabulated_text.result
+    (subst (AsksSo c.args.words.now) c.in-Some-Table.field-0-is (c.in-Some-Table.ensures).asked) c.tabulated_text.ensures.unmade)
+
+pub returns-in-Some-Table-clause-leaves : goal.returns-in-Some-Table-clause-leaves
+returns-in-Some-Table-clause-leaves g c =
+    asked-leaves c.args.words.now form.Table _
+    (subst (AsksSo c.args.words.now) c.in-Some-Table.field-0-is (c.in-Some-Table.ensures).asked) tt

@@ -1,7 +1,7 @@
 -- Each way that a run ends has one answer.
 use Rattle.std.proofs.Common.{IfSome, sym, ◌∙◌, subst}
 use Rattle.mk_bundle.proofs.Naming.{differ}
-use Rattle.mk_words.specs.Words.{Compile, Eval, Run, Count, Report, Gen, Trial}
+use Rattle.mk_words.specs.Words.{Compile, Eval, Run, Count, Report, Gen, Trial, Table}
 use Rattle.mk_words.specs.declared.status.Status.{Status}
 use Rattle.mk_top.specs.Decided.{Decides}
 use Rattle.mk_top.specs.Seen.{seen}
@@ -47,6 +47,11 @@ returns-in-Ok-clause-generated g c turns asks done =
 pub returns-in-Ok-clause-tried : goal.returns-in-Ok-clause-tried
 returns-in-Ok-clause-tried g c turns order asks done =
     let at = finished-at _ (Trial turns order) (seen g.S.Source.left g.S.Source.faults c.args.src.now c.carry_out.new.src) _ c.in-Ok.ensures.finished asks in
+    (at.written, at.made.makes, at.whole)
+
+pub returns-in-Ok-clause-tabulated : goal.returns-in-Ok-clause-tabulated
+returns-in-Ok-clause-tabulated g c asks done =
+    let at = finished-at _ Table _ _ c.in-Ok.ensures.finished asks in
     (at.written, at.made.makes, at.whole)
 
 pub returns-in-Ok-clause-unread : goal.returns-in-Ok-clause-unread

@@ -39,14 +39,14 @@ returns-then-count-eq0-clause-drained g c =
       end = ends_behind _ _ _ so.0 c.read.new.buf so.1 end given;
     }
 
-pub returns-then-count-room-clause-drained : goal.returns-then-count-room-clause-drained
-returns-then-count-room-clause-drained g c =
+pub returns-then-count-left-clause-drained : goal.returns-then-count-left-clause-drained
+returns-then-count-left-clause-drained g c =
     let n = c.in_ok-count.count in
     let so = c.loop-count.invariant.came in
     let fits : n ≤ length c.read.new.buf = grind (arith, common_steps) in record {
       came = so.0 ++ take n c.read.new.buf;
       comes = comes_more _ _ _ so.0 (take n c.read.new.buf) so.1 (comes_given _ _ c.read.new.buf n c.in_ok-count.ensures.bytes);
-      many = omega (arith, so.2, length-append so.0 (take n c.read.new.buf), length-take-le n c.read.new.buf fits, c.room-room.ensures, c.if-count-room.true, c.loop-count.invariant.limit);
+      many = omega (arith, so.2, length-append so.0 (take n c.read.new.buf), length-take-le n c.read.new.buf fits, c.room-left.ensures, c.if-count-left.true, c.loop-count.invariant.limit);
     }
 
 pub loop-count-preserved : goal.loop-count-preserved
@@ -63,6 +63,6 @@ loop-count-preserved g c =
       );
       pending = ap (λ (h : Held). h.pending) c.came.ensures ∙ c.loop-count.invariant.pending;
       limit = limit ∙ c.loop-count.invariant.limit;
-      within = omega (arith, count, limit, c.room-room.ensures, c.if-count-room.false);
+      within = omega (arith, count, limit, c.room-left.ensures, c.if-count-left.false);
       falls = omega (arith, c.loop-count.invariant.falls, c.read.ensures.never_falls);
     }

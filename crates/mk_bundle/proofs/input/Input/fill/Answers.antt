@@ -3,6 +3,7 @@ use Rattle.std.proofs.Common.{arith, ℕ, ◌≡◌, ◌≤◌, ◌+◌, ◌++�
 use Rattle.std.proofs.lemmas.Grind.{common_steps}
 use Rattle.std.proofs.lemmas.List.{length-take-le}
 use Rattle.std.proofs.lemmas.Result.{err_from_is_err_and}
+use Rattle.mk_bundle.specs.declared.input.TheConstants.{PIECE}
 use Rattle.mk_bundle.specs.declared.refusal.StreamRefusal.{StreamRefusal}
 use Rattle.mk_bundle.specs.Taking.{Held, Feeds}
 use Rattle.mk_bundle.proofs.Coming.{comes_none, comes_given}
@@ -30,7 +31,7 @@ returns-clause-fed g c =
     let old = c.args.self.now in
     let fits : n ≤ length c.read.new.buf = grind (arith, common_steps) in
     let long : length (take n c.read.new.buf) ≡ n = length-take-le n c.read.new.buf fits in
-    let small : n ≤ 3904 = grind (arith, common_steps) in
+    let small : n ≤ PIECE = grind (arith, common_steps) in
     let grown : c.append.new.self.pending ≡ old.pending ++ take n c.read.new.buf = grind (arith, common_steps) in
     record {
       came = take n c.read.new.buf;

@@ -7,7 +7,7 @@ use Rattle.mk_bundle.proofs.reader.BundleReader.refuse.Goals as goal
 
 pub returns-clause-refused : goal.returns-clause-refused
 returns-clause-refused g c = λ taken wrong count. (
-    let h = c.in_ok-drain.ensures.drained in
+    let h = c.in_default.ensures.drained in
     let before : c.self.inside.input.count ≡ c.args.self.now.count = ap (λ (r : Reader). r.count) c.self.view_is in
     let limit : c.self.inside.input.limit ≡ c.args.self.now.limit = ap (λ (r : Reader). r.limit) c.self.view_is in record {
       came = h.came;
