@@ -19,7 +19,7 @@ use Rattle.mk_rules.specs.Claimed.{Claimed}
 use Rattle.mk_lines.specs.Words.{line, operand_word, is_line}
 use Rattle.mk_field.specs.Digits.{hex_byte}
 use Rattle.mk_lines.specs.CertLines.{op_line, claim_line}
-use Rattle.mk_lines.specs.CodeLines.{field_line, map_line, instr_line, position_word, out_line, out_lines}
+use Rattle.mk_lines.specs.CodeLines.{field_line, map_line, instr_line, position_word, out_line, out_lines, InstrFits}
 use Rattle.mk_ssa.specs.Widths.{OperandFits, OpFits}
 use Rattle.mk_field.specs.Maps.{MapFits}
 use Rattle.mk_field.proofs.Raised.{element-byte}
@@ -33,19 +33,19 @@ use Rattle.mk_lines.proofs.ByLines.{All-append, All-front, All-back}
 use Rattle.mk_lines.proofs.Steps.{after_again}
 use Rattle.mk_lines.proofs.Numbers.{number_of_again}
 use Rattle.mk_lines.proofs.Spelled.{map_again, operand_of_again, positions_again}
-use Rattle.mk_lines.proofs.Variants.{op_words, op_line-words, op_again, instr_words, InstrFits, instr_line-words, instr_again}
+use Rattle.mk_lines.proofs.Variants.{op_words, op_line-words, op_again, instr_words, instr_line-words, instr_again}
 use Rattle.mk_lines.proofs.Feeds.{is_line-decimal, is_line-images, is_line-positions, is_line-operand, is_line-op, is_line-instr}
 use Rattle.mk_bundle.proofs.Sound.{at}
 
 -- ---- runs over lines
 
 -- functions that agree give the same on what was read
-bind_same : {A B : Type 0} (o : Option A) (f g : A → Option B) → ((x : A) → f x ≡ g x) → (o >>= f) ≡ (o >>= g)
+pub bind_same : {A B : Type 0} (o : Option A) (f g : A → Option B) → ((x : A) → f x ≡ g x) → (o >>= f) ≡ (o >>= g)
 bind_same (Some x) f g e = e x
 bind_same None f g e = refl
 
 -- what is read on in two steps is read on in one step made of both
-bind_assoc : {A B C : Type 0} (o : Option A) (f : A → Option B) (g : B → Option C) → ((o >>= f) >>= g) ≡ (o >>= λ x. f x >>= g)
+pub bind_assoc : {A B C : Type 0} (o : Option A) (f : A → Option B) (g : B → Option C) → ((o >>= f) >>= g) ≡ (o >>= λ x. f x >>= g)
 bind_assoc (Some x) f g = refl
 bind_assoc None f g = refl
 
@@ -91,21 +91,21 @@ many_run spell state all one (x ∷ todo) done e =
     both_run (state done) (state (done ++ x ∷ [])) (state all) (spell x) (flat_map spell todo) (one done x todo e) (many_run spell state all one todo (done ++ x ∷ []) (append_assoc done (x ∷ []) todo ∙ e))
 
 -- what holds of all holds of one
-All-at : {A : Type 0} (P : A → Type 0) (done : List A) (x : A) (left all : List A) → done ++ x ∷ left ≡ all → AllByRecursion P all → P x
+pub All-at : {A : Type 0} (P : A → Type 0) (done : List A) (x : A) (left all : List A) → done ++ x ∷ left ≡ all → AllByRecursion P all → P x
 All-at P done x left all e h = (All-back P done (x ∷ left) (subst (AllByRecursion P) (sym e) h)).0
 
 -- what stands before one of a list is shorter than the list
-fewer_done : {A : Type 0} (done : List A) (x : A) (left all : List A) → done ++ x ∷ left ≡ all → length done < length all
+pub fewer_done : {A : Type 0} (done : List A) (x : A) (left all : List A) → done ++ x ∷ left ≡ all → length done < length all
 fewer_done done x left all e = omega (arith, ap length e, length-append done (x ∷ left))
 
 -- ---- the head
 
 -- a certificate of no block and no claim
-abbrev no_cert : Claimed
+abbrev pub no_cert : Claimed
 no_cert = record { blocks = []; claims = [] }
 
 -- a code of which only the head has come
-abbrev head_only : FieldId → ℕ → ℕ → ℕ → Listing
+abbrev pub head_only : FieldId → ℕ → ℕ → ℕ → Listing
 head_only field order secrets publics = record { field = field; order = order; secrets = secrets; publics = publics; maps = []; instrs = []; outs = [] }
 
 -- the version's line leads from the start to the line of the field
@@ -120,7 +120,7 @@ field_runs Gf2 = one_runs (at Field (head_only Gf2 1 0 0) no_cert) (at Order (he
 field_runs Gf256 = one_runs (at Field (head_only Gf2 1 0 0) no_cert) (at Order (head_only Gf256 1 0 0) no_cert) (codes "field gf256") refl refl
 
 -- from a name and a number within the limit that number is read
-headed_again : (name : List ℕ) (most n : ℕ) → n ≤ most → n < 2 ^ 32 → headed name most (name ++ decimal n) ≡ Some n
+pub headed_again : (name : List ℕ) (most n : ℕ) → n ≤ most → n < 2 ^ 32 → headed name most (name ++ decimal n) ≡ Some n
 unfolding headed
 headed_again name most n few small = rw (after_again name (decimal n), number_of_again n small, le-ltb most n few) refl
 
@@ -162,7 +162,7 @@ abbrev with_cert : Listing → List Op → List Operand → State
 with_cert code blocks claims = at Upper (record { field = code.field; order = code.order; secrets = code.secrets; publics = code.publics; maps = code.maps; instrs = []; outs = [] }) (record { blocks = blocks; claims = claims })
 
 -- a field that has a map is one of bytes
-field_has_maps : (field : FieldId) (done left : List AddMap) (map : AddMap) (all : List AddMap) → done ++ map ∷ left ≡ all → HasMapsOnlyInBytes field all → has_maps field ≡ true
+pub field_has_maps : (field : FieldId) (done left : List AddMap) (map : AddMap) (all : List AddMap) → done ++ map ∷ left ≡ all → HasMapsOnlyInBytes field all → has_maps field ≡ true
 field_has_maps Gf2 done left map all e none = absurd (omega (arith, fewer_done done map left all e, ap length none))
 field_has_maps Gf256 done left map all e bytes = refl
 
@@ -287,7 +287,7 @@ out_runs : (code : Listing) (cert : Claimed) (done positions : List ℕ) → len
 unfolding read_at lower_read after out_read
 out_runs code cert done positions one room short all =
     let found : positions_of (code.order + 1) (trace_len code) (flat_map position_word positions) ≡ Some positions =
-    ap (λ (n : ℕ). positions_of n (trace_len code) (flat_map position_word positions)) (sym one) ∙ positions_again (trace_len code) positions short all in
+    ap (λ (n : ℕ). positions_of n (trace_len code) (flat_map position_word positions)) (sym one) ∙ positions_again (trace_len code) positions (omega (arith, short)) all in
     one_runs (with_outs code cert done) (with_outs code cert (done ++ positions)) (codes "out" ++ flat_map position_word positions)
     (is_line-positions positions (all_small (trace_len code) (2 ^ 32) positions (omega arith) all))
     (rw (lt-ltb (length done) (65536 * (code.order + 1)) room, found) refl)

@@ -5,7 +5,8 @@ use Rattle.mk_code.specs.declared.instr.Instr.TheVariants as instr
 use Rattle.mk_lines.specs.Parsing.{after, whole, instr_at, instr_of}
 use Rattle.mk_lines.proofs.Feeds.{is_line-instr}
 use Rattle.mk_lines.proofs.Steps.{bind_some, same_some, whole_found}
-use Rattle.mk_lines.proofs.Variants.{instr_words, InstrFits, instr_found, instr_at_found, instr_at_again, instr_again}
+use Rattle.mk_lines.specs.CodeLines.{InstrFits}
+use Rattle.mk_lines.proofs.Variants.{instr_words, instr_found, instr_at_found, instr_at_again, instr_again}
 use Rattle.mk_bundle.specs.declared.draft.Stage.TheVariants.{Lower, Ended}
 use Rattle.mk_bundle.specs.declared.event.Event.TheVariants as event
 use Rattle.mk_bundle.specs.Counting.{Seen, instr_counts, instr_counted, lower_counted, counted_at, line_counted}

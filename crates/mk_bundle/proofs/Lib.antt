@@ -12,3 +12,6 @@ pub mod Marking
 pub mod Ending
 pub mod Gathering
 pub mod Instrs
+pub mod Leading
+pub mod RegisterComplete
+pub mod Versions

@@ -1,17 +1,16 @@
 -- Texts that are passed on one after the other.
-use Rattle.std.proofs.Common.{◌≡◌, ℕ, ◌+◌, ◌<◌, List, [], ◌∷◌, ◌++◌, length, take, drop, get_or, Option, Some, None, IfSome, Result, Ok, Err, OnErr, codes, flat_map, refl, sym, ◌∙◌, ap, subst, arith, append_assoc, length-append}
+use Rattle.std.proofs.Common.{◌≡◌, ℕ, ◌+◌, ◌/◌, ◌<◌, List, [], ◌∷◌, ◌++◌, length, take, drop, get_or, Option, Some, None, IfSome, Result, Ok, Err, OnErr, codes, flat_map, refl, sym, ◌∙◌, ap, subst, arith, append_assoc, length-append}
 use Rattle.std.specs.List.{AllByRecursion}
 use Rattle.std.proofs.lemmas.List.{append-nil, take-append-le, take-append-drop}
 use Rattle.std.proofs.lemmas.Grind.{flat_map-append, take_at_read}
 use Rattle.std.proofs.Math.Seq.{take-append-add}
 use Rattle.mk_base.specs.Streams.{TakesPrefix}
-use Rattle.mk_code.specs.Listing.{Listing}
 use Rattle.mk_rules.specs.Claimed.{Claimed}
 use Rattle.mk_lines.specs.Words.{line}
-use Rattle.mk_lines.specs.CodeLines.{instr_line}
-use Rattle.mk_bundle.specs.Text.{outputs_text, upper_text, text}
+use Rattle.mk_lines.specs.CodeLines.{out_lines}
+use Rattle.mk_bundle.specs.Text.{outputs_with, claimed_text, text_with}
 use Rattle.mk_bundle.proofs.Sound.{AllByRecursion-push}
-use Rattle.mk_bundle.specs.Passing.{Passes, Sends, Breaks, lower_rest}
+use Rattle.mk_bundle.specs.Passing.{Passes, Sends, Breaks, rest_with}
 
 -- no text is passed on by nothing
 pub sends_none : (told : Option (List ℕ)) (held : List ℕ) → Sends told held [] told held
@@ -86,9 +85,32 @@ breaks_end (Some before) mid after text kept begun broken =
 four_behind : (whole a b c d : List ℕ) → whole ++ a ++ b ++ c ++ d ≡ whole ++ (a ++ b ++ c ++ d)
 four_behind whole a b c d = simp (append_assoc) refl
 
--- the text, cut before the line of the code
-pub text_parts : (code : Listing) (cert : Claimed) → text code cert ≡ upper_text code cert ++ lower_rest code
-text_parts code cert = four_behind (upper_text code cert) (line (codes "code")) (flat_map instr_line code.instrs) (outputs_text code) (line (codes "end"))
+-- a text, cut before the line of the code
+pub text_cut : (front : List ℕ) (cert : Claimed) (instrs outs : List ℕ) → text_with front cert instrs outs ≡ claimed_text front cert ++ rest_with instrs outs
+text_cut front cert instrs outs = four_behind (claimed_text front cert) (line (codes "code")) instrs outs (line (codes "end"))
+
+-- the line of the code and those behind it, of equal instructions and outputs
+pub same_rest : {A : Type 0} (spell : A → List ℕ) (instrs other : List A) (shares order : ℕ) (outs others : List ℕ) → instrs ≡ other → shares ≡ order + 1 → outs ≡ others
+    → rest_with (flat_map spell instrs) (out_lines shares (length outs / shares) outs) ≡ rest_with (flat_map spell other) (outputs_with order others)
+same_rest spell instrs other shares order outs others e f g = rw (e, f, g) refl
+
+-- ---- three texts in a row
+
+-- all are passed on
+pub three_sent : (t0 t1 t2 t3 : Option (List ℕ)) (h0 h1 h2 h3 a b c : List ℕ) → Sends t0 h0 a t1 h1 → Sends t1 h1 b t2 h2 → Sends t2 h2 c t3 h3 → Sends t0 h0 (a ++ b ++ c) t3 h3
+three_sent t0 t1 t2 t3 h0 h1 h2 h3 a b c p q r = sends_more t0 t2 t3 h0 h2 h3 (a ++ b) c (sends_more t0 t1 t2 h0 h1 h2 a b p q) r
+
+-- the sink failed in the first
+pub first_of_three_broken : (t0 t3 : Option (List ℕ)) (h0 a b c : List ℕ) → Breaks t0 h0 a t3 → Breaks t0 h0 (a ++ b ++ c) t3
+first_of_three_broken t0 t3 h0 a b c p = breaks_sooner t0 t3 h0 (a ++ b) c (breaks_sooner t0 t3 h0 a b p)
+
+-- the sink failed in the second
+pub second_of_three_broken : (t0 t1 t3 : Option (List ℕ)) (h0 h1 a b c : List ℕ) → Sends t0 h0 a t1 h1 → Breaks t1 h1 b t3 → Breaks t0 h0 (a ++ b ++ c) t3
+second_of_three_broken t0 t1 t3 h0 h1 a b c p q = breaks_sooner t0 t3 h0 (a ++ b) c (breaks_later t0 t1 t3 h0 h1 a b p q)
+
+-- the sink failed in the third
+pub third_of_three_broken : (t0 t1 t2 t3 : Option (List ℕ)) (h0 h1 h2 a b c : List ℕ) → Sends t0 h0 a t1 h1 → Sends t1 h1 b t2 h2 → Breaks t2 h2 c t3 → Breaks t0 h0 (a ++ b ++ c) t3
+third_of_three_broken t0 t1 t2 t3 h0 h1 h2 a b c p q r = breaks_later t0 t2 t3 h0 h2 (a ++ b) c (sends_more t0 t1 t2 h0 h1 h2 a b p q) r
 
 -- ---- four texts in a row
 

@@ -19,11 +19,11 @@ use Rattle.mk_code.specs.Listing.{Listing, trace_len}
 use Rattle.mk_rules.specs.Claimed.{Claimed}
 use Rattle.mk_lines.specs.Words.{line, operand_word}
 use Rattle.mk_lines.specs.CertLines.{pair_words, mapped_words}
-use Rattle.mk_lines.specs.CodeLines.{field_line, position_word}
+use Rattle.mk_lines.specs.CodeLines.{field_line, position_word, InstrFits}
 use Rattle.mk_lines.specs.Parsing.{field_of, after, map_of, operand_of, op_of, instr_of, instr_at, add_at, mul_or_map_at, rnd_at, const_or_copy_at, sq_at, positions_of}
 use Rattle.mk_lines.proofs.Steps.{bind_some, passed, behind_found, is_word, chosen}
 use Rattle.mk_lines.proofs.Spelled.{map_found, operand_of_found, positions_found, number_words}
-use Rattle.mk_lines.proofs.Variants.{op_words, op_found, instr_words, instr_found, InstrFits}
+use Rattle.mk_lines.proofs.Variants.{op_words, op_found, instr_words, instr_found}
 use Rattle.mk_bundle.specs.declared.draft.Stage.{Stage}
 use Rattle.mk_bundle.specs.declared.draft.Stage.TheVariants.{Version, Field, Order, Secrets, Publics, Upper, Lower, Ended}
 use Rattle.mk_bundle.specs.Reading.{State, version_line, field_read, headed, order_read, secrets_read, publics_read, map_read, block_read, claim_read, code_read, upper_read, fits_at, may_instr, instr_read, out_read, lower_read, read_at}

@@ -4,6 +4,7 @@ pub mod Pairs
 pub mod Passing
 pub mod Events
 pub mod Reading
+pub mod RegisterReading
 pub mod Counting
 pub mod Taking
 pub mod Reads

@@ -1,13 +1,40 @@
 -- Which pairs have a text, and which texts are those of a pair.
-use Rattle.std.specs.Prelude.{◌≡◌, ℕ, List, [], ◌++◌}
+use Rattle.std.specs.Prelude.{◌≡◌, ℕ, ◌≤◌, ◌<◌, ◌^◌, List, [], ◌++◌, length}
+use Rattle.std.specs.List.{AllByRecursion}
+use Rattle.mk_field.specs.Maps.{MapFits}
+use Rattle.mk_ssa.specs.Widths.{OperandFits, OpFits}
 use Rattle.mk_code.specs.Listing.{Listing}
+use Rattle.mk_regs.specs.declared.instr.RegInstr.{RegInstr}
+use Rattle.mk_regs.specs.Form.{RegListing, IsRegListing, target, operation}
+use Rattle.mk_lines.specs.CodeLines.{IntoFits}
+use Rattle.mk_rules.specs.declared.TheConstants.{MOST_BLOCKS, MOST_CLAIMS}
 use Rattle.mk_rules.specs.Claimed.{Claimed}
 use Rattle.mk_rules.specs.Pairs.{IsPair}
-use Rattle.mk_bundle.specs.Text.{text}
+use Rattle.mk_bundle.specs.Text.{text, register_text}
 
 -- these bytes are the text of this code and certificate, which are a pair
 abbrev pub IsTextOf : List ℕ → Listing → Claimed → Type 0
 IsTextOf bytes code cert = IsPair code cert × (bytes ≡ text code cert)
+
+-- the numbers of an instruction have 32 bits, and its element is a byte
+abbrev pub RegisterFits : RegInstr → Type 0
+RegisterFits i = IntoFits (target i) (operation i)
+
+-- code over registers and a certificate of any blocks and claims, within the limits of a text. Its instructions and
+-- outputs may name any registers of 32 bits
+pub record IsRegisterPair (r : RegListing) (cert : Claimed) : Type 0 where
+  pub listing : IsRegListing r
+  pub maps : AllByRecursion MapFits r.maps
+  pub instrs : AllByRecursion RegisterFits r.instrs
+  pub outs : AllByRecursion (λ register. register < 2 ^ 32) r.outs
+  pub blocks : AllByRecursion OpFits cert.blocks
+  pub claims : AllByRecursion OperandFits cert.claims
+  pub few_blocks : length cert.blocks ≤ MOST_BLOCKS
+  pub few_claims : length cert.claims ≤ MOST_CLAIMS
+
+-- these bytes are the text of this register code and certificate, which are a pair
+abbrev pub IsRegisterTextOf : List ℕ → RegListing → Claimed → Type 0
+IsRegisterTextOf bytes r cert = IsRegisterPair r cert × (bytes ≡ register_text r cert)
 
 -- these bytes are the text of a code and a certificate
 abbrev pub IsBundleText : List ℕ → Type 0
@@ -18,3 +45,15 @@ abbrev pub TextsDiffer : Type 0
 TextsDiffer = (bytes rest : List ℕ) (code other_code : Listing) (cert other_cert : Claimed)
     → IsTextOf (bytes ++ rest) code cert → IsTextOf bytes other_code other_cert
     → (code ≡ other_code) × (cert ≡ other_cert) × (rest ≡ [])
+
+-- the same over registers: different pairs have different texts, and none is a proper front of another
+abbrev pub RegisterTextsDiffer : Type 0
+RegisterTextsDiffer = (bytes rest : List ℕ) (r other_r : RegListing) (cert other_cert : Claimed)
+    → IsRegisterTextOf (bytes ++ rest) r cert → IsRegisterTextOf bytes other_r other_cert
+    → (r ≡ other_r) × (cert ≡ other_cert) × (rest ≡ [])
+
+-- no text over positions is a front of one over registers or equal to it, and none over registers is one of a text over positions
+abbrev pub VersionsDiffer : Type 0
+VersionsDiffer = (bytes rest : List ℕ) (code : Listing) (r : RegListing) (cert registers_cert : Claimed)
+    → (IsTextOf (bytes ++ rest) code cert → IsRegisterTextOf bytes r registers_cert → ⊥)
+    × (IsRegisterTextOf (bytes ++ rest) r registers_cert → IsTextOf bytes code cert → ⊥)

@@ -1,4 +1,4 @@
--- The texts of two small pairs and the events of one, computed.
+-- The texts of small pairs and the events of one, computed.
 use Rattle.std.specs.Prelude.{◌≡◌, ℕ, List, [], ◌∷◌, ◌++◌, flat_map, codes, refl}
 use Rattle.std.specs.Fmt.{digits}
 use Rattle.mk_field.specs.declared.field.FieldId.TheVariants.{Gf256}
@@ -6,10 +6,12 @@ use Rattle.mk_ssa.specs.declared.Operand.TheVariants.{Secret, Public, Block}
 use Rattle.mk_ssa.specs.declared.Op.TheVariants as op
 use Rattle.mk_code.specs.declared.instr.Instr.TheVariants.{Rnd, Const, Copy, Add, Mul, Sq, Map}
 use Rattle.mk_code.specs.Listing.{Listing}
+use Rattle.mk_regs.specs.declared.instr.RegInstr.TheVariants as reg
+use Rattle.mk_regs.specs.Form.{RegListing}
 use Rattle.mk_rules.specs.Claimed.{Claimed}
 use Rattle.mk_lines.specs.Words.{line}
 use Rattle.mk_lines.specs.CodeLines.{out_lines}
-use Rattle.mk_bundle.specs.Text.{text}
+use Rattle.mk_bundle.specs.Text.{text, register_text}
 use Rattle.mk_bundle.specs.declared.event.Event.{Event}
 use Rattle.mk_bundle.specs.declared.event.Event.TheVariants as event
 use Rattle.mk_bundle.specs.Events.{outs_of, events_of, event_text}
@@ -42,6 +44,41 @@ sum_text =
 pub text-sum : text sum_code sum_cert ≡ sum_text
 unfolding digits out_lines
 text-sum = refl
+
+-- the same sum over four registers: each instruction writes the register of the share that it reads first
+abbrev pub sum_registers : RegListing
+sum_registers = record {
+  field = Gf256;
+  order = 1;
+  secrets = 2;
+  publics = 0;
+  registers = 4;
+  maps = [];
+  instrs = reg.Add 0 0 2 ∷ reg.Add 1 1 3 ∷ [];
+  outs = 0 ∷ 1 ∷ [];
+}
+
+-- their lines, with the certificate of the first pair
+abbrev pub sum_register_text : List ℕ
+sum_register_text =
+    line (codes "mask 2")
+    ++ line (codes "field gf256")
+    ++ line (codes "order 1")
+    ++ line (codes "secrets 2")
+    ++ line (codes "publics 0")
+    ++ line (codes "registers 4")
+    ++ line (codes "block add s0 s1")
+    ++ line (codes "claim b0")
+    ++ line (codes "code")
+    ++ line (codes "add 0 0 2")
+    ++ line (codes "add 1 1 3")
+    ++ line (codes "out 0 1")
+    ++ line (codes "end")
+
+-- the text of the sum over registers is these lines
+pub text-sum-registers : register_text sum_registers sum_cert ≡ sum_register_text
+unfolding digits out_lines
+text-sum-registers = refl
 
 -- its eight events
 abbrev pub sum_events : List Event
@@ -138,3 +175,45 @@ kinds_text =
 pub text-kinds : text kinds_code kinds_cert ≡ kinds_text
 unfolding digits out_lines
 text-kinds = refl
+
+-- an instruction of each kind over registers, and two outputs
+abbrev pub kinds_registers : RegListing
+kinds_registers = record {
+  field = Gf256;
+  order = 2;
+  secrets = 1;
+  publics = 1;
+  registers = 12;
+  maps = record { images = 0x1f ∷ 0x3e ∷ 0x7c ∷ 0xf8 ∷ 0xf1 ∷ 0xe3 ∷ 0xc7 ∷ 0x8f ∷ [] } ∷ [];
+  instrs = reg.Rnd 4 ∷ reg.Const 5 0x0a ∷ reg.Copy 3 3 ∷ reg.Add 0 0 4 ∷ reg.Mul 11 1 5 ∷ reg.Sq 2 2 ∷ reg.Map 9 0 2 ∷ [];
+  outs = 0 ∷ 1 ∷ 2 ∷ 11 ∷ 9 ∷ 3 ∷ [];
+}
+
+-- their lines, with a certificate of a constant that is claimed
+abbrev pub kinds_register_text : List ℕ
+kinds_register_text =
+    line (codes "mask 2")
+    ++ line (codes "field gf256")
+    ++ line (codes "order 2")
+    ++ line (codes "secrets 1")
+    ++ line (codes "publics 1")
+    ++ line (codes "map 1f3e7cf8f1e3c78f")
+    ++ line (codes "registers 12")
+    ++ line (codes "block const 63")
+    ++ line (codes "claim b0")
+    ++ line (codes "code")
+    ++ line (codes "rnd 4")
+    ++ line (codes "const 5 0a")
+    ++ line (codes "copy 3 3")
+    ++ line (codes "add 0 0 4")
+    ++ line (codes "mul 11 1 5")
+    ++ line (codes "sq 2 2")
+    ++ line (codes "map 9 0 2")
+    ++ line (codes "out 0 1 2")
+    ++ line (codes "out 11 9 3")
+    ++ line (codes "end")
+
+-- the text of these is those lines
+pub text-kinds-registers : register_text kinds_registers (record { blocks = op.Const 0x63 ∷ []; claims = Block 0 ∷ [] }) ≡ kinds_register_text
+unfolding digits out_lines
+text-kinds-registers = refl

@@ -13,9 +13,19 @@
 //! - for each instruction `rnd`, `const C`, `copy P`, `add P P`, `mul P P`, `sq P` or `map M P`;
 //! - `out` and the positions of its shares for each output, and then `end`.
 //!
+//! That is version 1, of code over positions. Version 2 is of code over registers. It is the same with these
+//! differences, D and S being registers:
+//!
+//! - the first line is `mask 2`, and `registers R` stands behind the maps, R being the number of registers;
+//! - the instructions are `rnd D`, `const D C`, `copy D S`, `add D S S`, `mul D S S`, `sq D S` or
+//!   `map D M S`, where D is the register that is written;
+//! - `out` has registers, which are read behind the last instruction.
+//!
+//! Version 2 is written, and not read yet.
+//!
 //! A text has at most 131,072 blocks and 65,536 claims; a code keeps the limits on its own lines.
 //! Positions and maps in the lines of a code are those that there are, and elements are of its field. In
-//! the lines of blocks numbers are any of 32 bits.
+//! the lines of blocks numbers are any of 32 bits, and so are registers.
 //!
 //! Reading names the first line where no bundle text goes on. A text is cut into lines that end with a
 //! line feed; what stands behind the last one is a further line, which lacks it.
@@ -40,8 +50,8 @@ pub const MOST_HELD: usize = 4096;
 
 pub use collect::collect_bundle;
 pub use event::{Event, Head};
-pub use read::{BundleRefusal, read_bundle, texts_differ};
+pub use read::{BundleRefusal, read_bundle, register_texts_differ, texts_differ};
 pub use reader::BundleReader;
 pub use refusal::StreamRefusal;
 pub use text::to_text;
-pub use write::write_bundle;
+pub use write::{write_bundle, write_registers};

@@ -2,7 +2,7 @@ ghost use Rattle.std.specs.Prelude.{◌≡◌, ◌≤◌, ℕ, Err, length, IfOk
 ghost use Rattle.mk_bundle.specs.declared.TheConstants.{MOST_BYTES};
 ghost use Rattle.mk_bundle.specs.declared.read.BundleRefusal.TheVariants.{Form};
 ghost use Rattle.mk_lines.specs.Lines.{NamesFirst};
-ghost use Rattle.mk_bundle.specs.Pairs.{IsTextOf, IsBundleText, TextsDiffer};
+ghost use Rattle.mk_bundle.specs.Pairs.{IsTextOf, IsBundleText, TextsDiffer, RegisterTextsDiffer, VersionsDiffer};
 
 use crate::MOST_BYTES;
 use crate::collect::collect_bundle;
@@ -49,4 +49,11 @@ pub fn read_bundle(alloc: Global, text: &[u8]) -> Result<Bundle, BundleRefusal>
 /// does nothing.
 pub fn texts_differ()
     ensures { TextsDiffer }
+{}
+
+/// The same of texts over registers, and no text of one version is the front of one of the other, or equal to it. It
+/// does nothing.
+pub fn register_texts_differ()
+    ensures registers { RegisterTextsDiffer }
+    ensures versions { VersionsDiffer }
 {}

@@ -21,6 +21,8 @@ mod parsed;
 #[cfg(test)]
 mod placed;
 #[cfg(test)]
+mod register_texts;
+#[cfg(test)]
 mod reported;
 #[cfg(test)]
 mod rows;

@@ -14,13 +14,13 @@ use Rattle.mk_pad.specs.declared.kind.GadgetKind.{GadgetKind}
 use Rattle.mk_pad.specs.declared.kind.GadgetKind.TheVariants.{Mul, Refresh}
 use Rattle.mk_pad.specs.Form.{GadgetForm, IsGadget, share_count, position_count, operands}
 use Rattle.mk_lines.specs.Words.{line, is_line}
-use Rattle.mk_lines.specs.CodeLines.{field_line, instr_line, out_line, position_word}
+use Rattle.mk_lines.specs.CodeLines.{field_line, instr_line, out_line, position_word, InstrFits}
 use Rattle.mk_lines.specs.Lines.{AreLines}
 use Rattle.mk_lines.specs.Parsing.{◌>>=◌, after, field_of, positions_of}
 use Rattle.mk_lines.proofs.Steps.{same_some, after_again}
 use Rattle.mk_lines.proofs.Numbers.{number_of_again}
 use Rattle.mk_lines.proofs.Spelled.{positions_again}
-use Rattle.mk_lines.proofs.Variants.{instr_words, InstrFits, instr_line-words, instr_again}
+use Rattle.mk_lines.proofs.Variants.{instr_words, instr_line-words, instr_again}
 use Rattle.mk_lines.proofs.Feeds.{is_line-decimal, is_line-positions, is_line-instr}
 use Rattle.mk_lib.specs.Text.{kind_line, order_line, text}
 use Rattle.mk_lib.specs.declared.draft.Stage.TheVariants.{Kind, Field, Order, Instrs, End, Ended}
@@ -210,7 +210,7 @@ out_leads g form =
     let below = all_small (share_count g) (position_count g) (position_count g) g.outs (omega arith) form.outs.within in
     let small = all_small (share_count g) (position_count g) (2 ^ 32) g.outs (omega (arith, short)) form.outs.within in
     let found : positions_of (g.order + 1) (position_count g) (flat_map position_word g.outs) ≡ Some g.outs =
-    ap (λ (n : ℕ). positions_of n (position_count g) (flat_map position_word g.outs)) (sym form.outs.count) ∙ positions_again (position_count g) g.outs short below in
+    ap (λ (n : ℕ). positions_of n (position_count g) (flat_map position_word g.outs)) (sym form.outs.count) ∙ positions_again (position_count g) g.outs (omega (arith, short)) below in
     one_leads (with_instrs g g.instrs) (at End g) (codes "out" ++ flat_map position_word g.outs) (is_line-positions g.outs small)
     (ap (λ (o : Option (List ℕ)). o >>= λ outs. Some (at End (record g { outs = outs }))) found) (whole_good g form).0
 

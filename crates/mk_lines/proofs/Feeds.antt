@@ -19,10 +19,10 @@ use Rattle.mk_lines.specs.Words.{operand_word, is_line}
 use Rattle.mk_field.specs.Digits.{hex_byte, hex_digit}
 use Rattle.mk_lines.specs.CertLines.{pair_words, mapped_words}
 use Rattle.mk_ssa.specs.Widths.{OperandFits, OpFits}
-use Rattle.mk_lines.specs.CodeLines.{position_word}
+use Rattle.mk_lines.specs.CodeLines.{position_word, InstrFits, IntoFits}
 use Rattle.mk_base.proofs.Digits.{own}
 use Rattle.mk_lines.proofs.Spelled.{number_words}
-use Rattle.mk_lines.proofs.Variants.{op_words, instr_words, InstrFits}
+use Rattle.mk_lines.proofs.Variants.{op_words, instr_words, into_words}
 
 -- a byte that differs from a line feed by the test is none
 unlike : (b : ℕ) → (b == 10) ≡ false → b ≡ 10 → ⊥
@@ -187,3 +187,17 @@ is_line-instr (instr.Add left right) fits = is_line-numbers left right fits
 is_line-instr (instr.Mul left right) fits = is_line-numbers left right fits
 is_line-instr (instr.Sq from) fits = is_line-decimal from fits
 is_line-instr (instr.Map map from) fits = is_line-numbers map from fits
+
+-- no line feed stands in a register and a space before words without one
+is_line-target : (to : ℕ) (rest : List ℕ) → to < 2 ^ 32 → is_line rest ≡ true → is_line (decimal to ++ codes " " ++ rest) ≡ true
+is_line-target to rest small clean = is_line-spaced (decimal to) rest (is_line-decimal to small) clean
+
+-- no line feed stands in the words of an instruction that writes a register
+pub is_line-into : (to : ℕ) (i : Instr) → IntoFits to i → is_line (into_words to i) ≡ true
+is_line-into to instr.Rnd fits = is_line-decimal to fits.0
+is_line-into to (instr.Const value) fits = is_line-target to (hex_byte value) fits.0 (is_line-hex value)
+is_line-into to (instr.Copy from) fits = is_line-numbers to from (fits.0, fits.1)
+is_line-into to (instr.Add left right) fits = is_line-target to (number_words left right) fits.0 (is_line-numbers left right fits.1)
+is_line-into to (instr.Mul left right) fits = is_line-target to (number_words left right) fits.0 (is_line-numbers left right fits.1)
+is_line-into to (instr.Sq from) fits = is_line-numbers to from (fits.0, fits.1)
+is_line-into to (instr.Map map from) fits = is_line-target to (number_words map from) fits.0 (is_line-numbers map from fits.1)

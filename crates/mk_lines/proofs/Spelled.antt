@@ -318,8 +318,8 @@ behind_position : (positions : List ℕ) → EndsNumber (flat_map position_word 
 behind_position [] = tt
 behind_position (p ∷ ps) = refl
 
--- the words of positions below a length of 32 bits are read as those positions
-pub positions_again : (len : ℕ) (positions : List ℕ) → len < 2 ^ 32 → AllByRecursion (λ p. p < len) positions → positions_of (length positions) len (flat_map position_word positions) ≡ Some positions
+-- the words of positions below a length, all of 32 bits, are read as those positions
+pub positions_again : (len : ℕ) (positions : List ℕ) → len ≤ 2 ^ 32 → AllByRecursion (λ p. p < len) positions → positions_of (length positions) len (flat_map position_word positions) ≡ Some positions
 unfolding positions_of after whole
 positions_again len [] short all = refl
 positions_again len (p ∷ ps) short all =

@@ -12,10 +12,10 @@ use Rattle.mk_lines.specs.Words.{line, operand_word}
 use Rattle.mk_field.specs.Digits.{hex_byte}
 use Rattle.mk_lines.specs.CertLines.{pair_words, mapped_words, op_line}
 use Rattle.mk_ssa.specs.Widths.{OperandFits, OpFits}
-use Rattle.mk_lines.specs.CodeLines.{instr_line}
-use Rattle.mk_lines.specs.Parsing.{◌>>=◌, after, behind, or_else, whole, hex_at, hex_of, number_at, numbers_at, operand_of, pair_of, mapped_of, public_op_of, single_op_of, pair_op_of, op_of, rnd_at, const_or_copy_at, add_at, mul_or_map_at, sq_at, instr_at, instr_of}
-use Rattle.mk_lines.proofs.Steps.{bind_some, same_some, behind_found, or_found, whole_found}
-use Rattle.mk_lines.proofs.Numbers.{EndsNumber, number_found, number_again}
+use Rattle.mk_lines.specs.CodeLines.{instr_line, into_line, InstrFits, IntoFits}
+use Rattle.mk_lines.specs.Parsing.{◌>>=◌, after, behind, or_else, whole, hex_at, hex_of, number_at, numbers_at, operand_of, pair_of, mapped_of, public_op_of, single_op_of, pair_op_of, op_of, rnd_at, const_or_copy_at, add_at, mul_or_map_at, sq_at, instr_at, instr_of, numbers_of, target_at, into_by, into_of}
+use Rattle.mk_lines.proofs.Steps.{bind_some, same_some, behind_found, or_found, whole_found, after_again}
+use Rattle.mk_lines.proofs.Numbers.{EndsNumber, number_found, number_again, number_of_again}
 use Rattle.mk_lines.proofs.Spelled.{hex_found, hex_again, hex_of_found, hex_of_again, operand_of_found, operand_of_again, pair_found, pair_again, mapped_found, mapped_again, number_words, numbers_found, numbers_again}
 
 -- what stands in the line of a block behind `block `
@@ -188,16 +188,6 @@ instr_words (instr.Mul left right) = codes "mul " ++ number_words left right
 instr_words (instr.Sq from) = codes "sq " ++ decimal from
 instr_words (instr.Map map from) = codes "map " ++ number_words map from
 
--- its numbers have 32 bits, and its element is a byte
-abbrev pub InstrFits : Instr → Type 0
-InstrFits instr.Rnd = Unit {0}
-InstrFits (instr.Const value) = value < 256
-InstrFits (instr.Copy from) = from < 2 ^ 32
-InstrFits (instr.Add left right) = (left < 2 ^ 32) × (right < 2 ^ 32)
-InstrFits (instr.Mul left right) = (left < 2 ^ 32) × (right < 2 ^ 32)
-InstrFits (instr.Sq from) = from < 2 ^ 32
-InstrFits (instr.Map map from) = (map < 2 ^ 32) × (from < 2 ^ 32)
-
 -- the line of an instruction is its words and a line feed
 pub instr_line-words : (i : Instr) → instr_line i ≡ line (instr_words i)
 instr_line-words instr.Rnd = refl
@@ -317,6 +307,63 @@ unfolding instr_of whole
 instr_again i fits =
     let h : instr_at (instr_words i) ≡ Some (i, []) = ap instr_at (sym (append-nil (instr_words i))) ∙ instr_at_again i [] fits tt in
     rw h refl
+
+-- ---- instructions that write registers
+
+-- the line of an instruction that writes a register, without its line feed
+abbrev pub into_words : ℕ → Instr → List ℕ
+into_words to instr.Rnd = codes "rnd " ++ decimal to
+into_words to (instr.Const value) = codes "const " ++ (decimal to ++ codes " " ++ hex_byte value)
+into_words to (instr.Copy from) = codes "copy " ++ number_words to from
+into_words to (instr.Add left right) = codes "add " ++ (decimal to ++ codes " " ++ number_words left right)
+into_words to (instr.Mul left right) = codes "mul " ++ (decimal to ++ codes " " ++ number_words left right)
+into_words to (instr.Sq from) = codes "sq " ++ number_words to from
+into_words to (instr.Map map from) = codes "map " ++ (decimal to ++ codes " " ++ number_words map from)
+
+-- three numbers with spaces between
+three_numbers : (word to left right : List ℕ) → word ++ to ++ codes " " ++ left ++ codes " " ++ right ≡ word ++ (to ++ codes " " ++ (left ++ codes " " ++ right))
+three_numbers word to left right = simp (append_assoc) refl
+
+-- the line of an instruction that writes a register is its words and a line feed
+pub into_line-words : (to : ℕ) (i : Instr) → into_line to i ≡ line (into_words to i)
+into_line-words to instr.Rnd = refl
+into_line-words to (instr.Const value) = refl
+into_line-words to (instr.Copy from) = refl
+into_line-words to (instr.Add left right) = ap line (three_numbers (codes "add ") (decimal to) (decimal left) (decimal right))
+into_line-words to (instr.Mul left right) = ap line (three_numbers (codes "mul ") (decimal to) (decimal left) (decimal right))
+into_line-words to (instr.Sq from) = refl
+into_line-words to (instr.Map map from) = ap line (three_numbers (codes "map ") (decimal to) (decimal map) (decimal from))
+
+-- two numbers with a space between and nothing behind are read as those two
+numbers_of_again : (left right : ℕ) → left < 2 ^ 32 → right < 2 ^ 32 → numbers_of (number_words left right) ≡ Some (left, right)
+unfolding numbers_of whole
+numbers_of_again left right low high =
+    let h : numbers_at (number_words left right) ≡ Some ((left, right), []) = ap numbers_at (sym (append-nil (number_words left right))) ∙ numbers_again left right [] low high tt in
+    rw h refl
+
+-- a register and a space before more words are read as it and those
+target_again : (to : ℕ) (rest : List ℕ) → to < 2 ^ 32 → target_at (decimal to ++ codes " " ++ rest) ≡ Some (to, rest)
+unfolding target_at
+target_again to rest small = rw (append_assoc (decimal to) (codes " ") rest, number_again to (codes " " ++ rest) small refl, after_again (codes " ") rest) refl
+
+-- the register that is written and the instruction are read, where the instruction is from its words
+by_again : (f : List ℕ → Option Instr) (to : ℕ) (i : Instr) (rest : List ℕ) → to < 2 ^ 32 → f rest ≡ Some i → into_by f (decimal to ++ codes " " ++ rest) ≡ Some (to, i)
+unfolding into_by
+by_again f to i rest small read = rw (target_again to rest small, read) refl
+
+-- the words of an instruction that writes a register, whose numbers fit, are read as both
+pub into_again : (to : ℕ) (i : Instr) → IntoFits to i → into_of (into_words to i) ≡ Some (to, i)
+unfolding into_of after
+into_again to instr.Rnd fits = rw (number_of_again to fits.0) refl
+into_again to (instr.Const value) fits = by_again _ to (instr.Const value) (hex_byte value) fits.0 (ap (λ (o : Option ℕ). o >>= λ value. Some (instr.Const value)) (hex_of_again value fits.1))
+into_again to (instr.Copy from) fits = by_again _ to (instr.Copy from) (decimal from) fits.0 (ap (λ (o : Option ℕ). o >>= λ from. Some (instr.Copy from)) (number_of_again from fits.1))
+into_again to (instr.Add left right) fits =
+    by_again _ to (instr.Add left right) (number_words left right) fits.0 (ap (λ (o : Option (ℕ × ℕ)). o >>= λ n. Some (instr.Add n.0 n.1)) (numbers_of_again left right fits.1.0 fits.1.1))
+into_again to (instr.Mul left right) fits =
+    by_again _ to (instr.Mul left right) (number_words left right) fits.0 (ap (λ (o : Option (ℕ × ℕ)). o >>= λ n. Some (instr.Mul n.0 n.1)) (numbers_of_again left right fits.1.0 fits.1.1))
+into_again to (instr.Sq from) fits = by_again _ to (instr.Sq from) (decimal from) fits.0 (ap (λ (o : Option ℕ). o >>= λ from. Some (instr.Sq from)) (number_of_again from fits.1))
+into_again to (instr.Map map from) fits =
+    by_again _ to (instr.Map map from) (number_words map from) fits.0 (ap (λ (o : Option (ℕ × ℕ)). o >>= λ n. Some (instr.Map n.0 n.1)) (numbers_of_again map from fits.1.0 fits.1.1))
 
 -- ---- the first letter
 

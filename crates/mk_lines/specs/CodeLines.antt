@@ -1,5 +1,5 @@
 -- The lines of a code: one for its field, one for each additive map, one for each instruction and one for each output.
-use Rattle.std.specs.Prelude.{ℕ, zero, suc, List, [], ◌++◌, take, drop, flat_map, codes, decimal}
+use Rattle.std.specs.Prelude.{ℕ, zero, suc, ◌^◌, ◌<◌, List, [], ◌++◌, take, drop, flat_map, codes, decimal}
 use Rattle.mk_field.specs.declared.field.FieldId.{FieldId}
 use Rattle.mk_field.specs.declared.field.FieldId.TheVariants.{Gf2, Gf256}
 use Rattle.mk_field.specs.declared.map.AddMap.{AddMap}
@@ -26,6 +26,30 @@ instr_line (Add left right) = line (codes "add " ++ decimal left ++ codes " " ++
 instr_line (Mul left right) = line (codes "mul " ++ decimal left ++ codes " " ++ decimal right)
 instr_line (Sq from) = line (codes "sq " ++ decimal from)
 instr_line (Map map from) = line (codes "map " ++ decimal map ++ codes " " ++ decimal from)
+
+-- the line of an instruction that writes a register: the register stands behind the word, before what the instruction reads
+abbrev pub into_line : ℕ → Instr → List ℕ
+into_line to Rnd = line (codes "rnd " ++ decimal to)
+into_line to (Const value) = line (codes "const " ++ decimal to ++ codes " " ++ hex_byte value)
+into_line to (Copy from) = line (codes "copy " ++ decimal to ++ codes " " ++ decimal from)
+into_line to (Add left right) = line (codes "add " ++ decimal to ++ codes " " ++ decimal left ++ codes " " ++ decimal right)
+into_line to (Mul left right) = line (codes "mul " ++ decimal to ++ codes " " ++ decimal left ++ codes " " ++ decimal right)
+into_line to (Sq from) = line (codes "sq " ++ decimal to ++ codes " " ++ decimal from)
+into_line to (Map map from) = line (codes "map " ++ decimal to ++ codes " " ++ decimal map ++ codes " " ++ decimal from)
+
+-- the numbers of an instruction have 32 bits, and its element is a byte
+abbrev pub InstrFits : Instr → Type 0
+InstrFits Rnd = Unit {0}
+InstrFits (Const value) = value < 256
+InstrFits (Copy from) = from < 2 ^ 32
+InstrFits (Add left right) = (left < 2 ^ 32) × (right < 2 ^ 32)
+InstrFits (Mul left right) = (left < 2 ^ 32) × (right < 2 ^ 32)
+InstrFits (Sq from) = from < 2 ^ 32
+InstrFits (Map map from) = (map < 2 ^ 32) × (from < 2 ^ 32)
+
+-- the numbers of an instruction that writes a register have 32 bits, and its element is a byte
+abbrev pub IntoFits : ℕ → Instr → Type 0
+IntoFits to i = (to < 2 ^ 32) × InstrFits i
 
 -- a space and a position in the trace
 abbrev pub position_word : ℕ → List ℕ

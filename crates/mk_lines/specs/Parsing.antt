@@ -223,6 +223,37 @@ instr_of words = do
   i ← instr_at words
   whole i
 
+-- two numbers, a space between them, and nothing behind them
+unfoldable pub numbers_of : List ℕ → Option (ℕ × ℕ)
+numbers_of bytes = do
+  numbers ← numbers_at bytes
+  whole numbers
+
+-- the register that an instruction writes, and what stands behind it and a space
+unfoldable pub target_at : List ℕ → Option (ℕ × List ℕ)
+target_at bytes = do
+  to ← number_at bytes
+  rest ← after (codes " ") to.1
+  Some (to.0, rest)
+
+-- the register that an instruction writes, and the instruction, which is read from what stands behind it
+unfoldable pub into_by : (List ℕ → Option Instr) → List ℕ → Option (ℕ × Instr)
+into_by f bytes = do
+  target ← target_at bytes
+  i ← f target.1
+  Some (target.0, i)
+
+-- an instruction that writes a register: its line
+unfoldable pub into_of : List ℕ → Option (ℕ × Instr)
+into_of words =
+    behind (after (codes "add ") words) (into_by (λ rest. numbers_of rest >>= λ n. Some (instr.Add n.0 n.1))) (
+    behind (after (codes "mul ") words) (into_by (λ rest. numbers_of rest >>= λ n. Some (instr.Mul n.0 n.1))) (
+    behind (after (codes "rnd ") words) (λ rest. number_of rest >>= λ to. Some (to, instr.Rnd)) (
+    behind (after (codes "const ") words) (into_by (λ rest. hex_of rest >>= λ value. Some (instr.Const value))) (
+    behind (after (codes "copy ") words) (into_by (λ rest. number_of rest >>= λ from. Some (instr.Copy from))) (
+    behind (after (codes "sq ") words) (into_by (λ rest. number_of rest >>= λ from. Some (instr.Sq from))) (
+    behind (after (codes "map ") words) (into_by (λ rest. numbers_of rest >>= λ n. Some (instr.Map n.0 n.1))) None))))))
+
 -- so many positions below `len`, a space before each, and nothing behind them
 unfoldable pub positions_of : ℕ → ℕ → List ℕ → Option (List ℕ)
 positions_of zero len bytes = whole ([], bytes)

@@ -11,7 +11,9 @@
 //!   `block mul V V` or `block refresh V` for a block;
 //! - `claim V` for a claim;
 //! - `rnd`, `const C`, `copy P`, `add P P`, `mul P P`, `sq P` or `map M P` for an instruction;
-//! - `out` and the positions of its shares for an output.
+//! - `rnd D`, `const D C`, `copy D S`, `add D S S`, `mul D S S`, `sq D S` or `map D M S` for an
+//!   instruction that reads registers and writes the register D;
+//! - `out` and the positions of its shares, or their registers, for an output.
 //!
 //! A call that writes makes one line in place, and takes no memory. One that reads takes the bytes from their front on,
 //! and answers `None` where they don't spell what it reads.
@@ -24,7 +26,7 @@ mod refusal;
 mod words;
 
 pub use cutting::cut;
-pub use lines::{field_line, spell_claim, spell_instr, spell_map, spell_op, spell_out};
+pub use lines::{field_line, spell_claim, spell_instr, spell_into, spell_map, spell_op, spell_out};
 pub use parse::{
     after, field_of, instr_at, instr_of, map_of, number_at, number_of, op_of, operand_of,
     positions_of,
@@ -54,6 +56,10 @@ mod tests {
         assert_eq!(rt; line.as_str(), "claim p10\n");
         spell_instr(&mut line, Instr::Map { map: 7, from: 10 });
         assert_eq!(rt; line.as_str(), "map 7 10\n");
+        spell_into(&mut line, 3, Instr::Map { map: 7, from: 10 });
+        assert_eq!(rt; line.as_str(), "map 3 7 10\n");
+        spell_into(&mut line, 3, Instr::Const { value: 10 });
+        assert_eq!(rt; line.as_str(), "const 3 0a\n");
         spell_out(&mut line, &[4, 15]);
         assert_eq!(rt; line.as_str(), "out 4 15\n");
     }

@@ -8,7 +8,7 @@ ghost use Rattle.mk_lines.specs.declared.words.TheConstants.{MOST_LINE};
 ghost use Rattle.mk_lines.specs.Words.{operand_word};
 ghost use Rattle.mk_field.specs.Digits.{hex_byte};
 ghost use Rattle.mk_lines.specs.CertLines.{block_line, pair_words, mapped_words, op_line, claim_line};
-ghost use Rattle.mk_lines.specs.CodeLines.{field_line, map_line, instr_line, position_word, out_line};
+ghost use Rattle.mk_lines.specs.CodeLines.{field_line, map_line, instr_line, into_line, IntoFits, position_word, out_line};
 ghost use Rattle.mk_ssa.specs.Widths.{OperandFits, OpFits};
 ghost use Rattle.mk_field.specs.Maps.{MapFits};
 
@@ -150,6 +150,34 @@ pub fn spell_instr(line: &mut Line, instr: Instr)
     }
 }
 
+/// Makes it the line of an instruction that writes this register.
+pub fn spell_into(line: &mut Line, to: u32, instr: Instr)
+    ensures text { line.new.bytes ≡ into_line to instr }
+    ensures fits { IntoFits to instr }
+{
+    match instr {
+        Instr::Rnd => spell_number(line, "rnd ", to),
+        Instr::Const { value } => spell_element_into(line, to, value),
+        Instr::Copy { from } => spell_numbers(line, "copy ", to, from),
+        Instr::Add { left, right } => spell_three_numbers(line, "add ", to, left, right),
+        Instr::Mul { left, right } => spell_three_numbers(line, "mul ", to, left, right),
+        Instr::Sq { from } => spell_numbers(line, "sq ", to, from),
+        Instr::Map { map, from } => spell_three_numbers(line, "map ", to, map, from),
+    }
+}
+
+/// Makes it the line of the instruction that writes an element to this register.
+fn spell_element_into(line: &mut Line, to: u32, value: u8)
+    ensures { line.new.bytes ≡ codes "const " ++ decimal to ++ codes " " ++ hex_byte value ++ codes "\n" }
+{
+    line.clear();
+    line.push_str("const ");
+    push_number(line, to);
+    line.push_str(" ");
+    push_hex(line, value);
+    line.push_str("\n");
+}
+
 /// Makes it the line of the instruction that gives an element.
 fn spell_element(line: &mut Line, value: u8)
     ensures { line.new.bytes ≡ codes "const " ++ hex_byte value ++ codes "\n" }
@@ -184,10 +212,26 @@ fn spell_numbers(line: &mut Line, name: &str, left: u32, right: u32)
     line.push_str("\n");
 }
 
-/// Makes it the line of an output: the positions of its shares.
+/// Makes it a line of a name and three numbers.
+fn spell_three_numbers(line: &mut Line, name: &str, first: u32, second: u32, third: u32)
+    requires { length name.now ≤ 16 }
+    ensures { line.new.bytes ≡ name.now ++ decimal first ++ codes " " ++ decimal second ++ codes " " ++ decimal third ++ codes "\n" }
+{
+    line.clear();
+    line.push_str(name);
+    push_number(line, first);
+    line.push_str(" ");
+    push_number(line, second);
+    line.push_str(" ");
+    push_number(line, third);
+    line.push_str("\n");
+}
+
+/// Makes it the line of an output: the positions of its shares, or their registers.
 pub fn spell_out(line: &mut Line, positions: &[u32])
     requires { length positions.now ≤ TOP_ORDER + 1 }
-    ensures { line.new.bytes ≡ out_line positions.now }
+    ensures text { line.new.bytes ≡ out_line positions.now }
+    ensures fits { AllByRecursion (λ p. p < 2 ^ 32) positions.now }
 {
     line.clear();
     line.push_str("out");
@@ -200,6 +244,7 @@ fn push_positions(line: &mut Line, positions: &[u32])
     requires few { length positions.now ≤ TOP_ORDER + 1 }
     requires room { array_string_len line.old ≤ 3 }
     ensures text { line.new.bytes ≡ line.old.bytes ++ flat_map position_word positions.now }
+    ensures fits { AllByRecursion (λ p. p < 2 ^ 32) positions.now }
     ensures len { array_string_len line.new ≤ array_string_len line.old + 11 * length positions.now }
 {
     for position in positions {

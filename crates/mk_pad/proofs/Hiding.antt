@@ -1,13 +1,13 @@
 -- An observer of a set sees as much as one of its rest: random elements hide what was taken out.
-use Rattle.std.proofs.Common.{◌≡◌, ◌≢◌, ◌⊎◌, inl, inr, ℕ, zero, suc, ◌+◌, ◌-◌, ◌≤◌, ◌<◌, ◌^◌, Bool, true, false, List, [], ◌∷◌, ◌++◌, length, not, nat_eq, nat_lt, slice_index, replicate, slice_set, bit_xor, cond, if◌then◌else◌, refl, sym, ◌∙◌, ap, subst, arith, eq-eqb, ne_eqb, length-append}
+use Rattle.std.proofs.Common.{◌≡◌, ◌≢◌, ◌⊎◌, inl, inr, ℕ, zero, suc, ◌+◌, ◌-◌, ◌<◌, Bool, true, false, List, [], ◌∷◌, ◌++◌, length, not, nat_eq, slice_index, bit_xor, cond, if◌then◌else◌, refl, sym, ◌∙◌, ap, subst, arith, eq-eqb, ne_eqb, length-append}
 use Rattle.std.specs.Prelude.{◌||◌}
 use Rattle.std.specs.List.{AllByRecursion, filter, list_any}
 use Rattle.std.proofs.lemmas.Bool.{cases_eq, cases_lt, false≢true}
-use Rattle.std.proofs.lemmas.List.{get_or_append_left, get_or-append-add, length-replicate}
+use Rattle.std.proofs.lemmas.List.{get_or_append_left, get_or-append-add}
 use Rattle.mk_field.specs.declared.field.FieldId.{FieldId}
 use Rattle.mk_field.specs.Field.{size, bits, product, raised}
-use Rattle.mk_field.proofs.Sum.{sum-assoc, sum-left_comm, sum-comm, sum-zero_left, sum-zero_right}
-use Rattle.mk_code.specs.Counting.{AllBelow, Elements, total}
+use Rattle.mk_field.proofs.Sum.{sum-assoc, sum-left_comm, sum-comm}
+use Rattle.mk_code.specs.Counting.{Elements, total}
 use Rattle.mk_code.specs.CountingLaws.{Overlooks}
 use Rattle.mk_code.specs.Trace.{randoms}
 use Rattle.mk_code.proofs.Totals.{total-same, Elements-append}
@@ -15,7 +15,7 @@ use Rattle.mk_code.proofs.TakenOut.{total-renamed}
 use Rattle.mk_pad.specs.declared.term.Term.{Term}
 use Rattle.mk_pad.specs.Form.{GadgetForm, IsGadget, share_count}
 use Rattle.mk_pad.specs.Polynomial.{monomial_at, term_at, value, IsTerm, IsPolynomial}
-use Rattle.mk_pad.specs.Positions.{variable, variable_count, polynomial_at, polynomials}
+use Rattle.mk_pad.specs.Positions.{variable_count, polynomials}
 use Rattle.mk_pad.specs.Shown.{has_variable, occurs, IsAdded, polynomial_of, is_in, without, MayTake, Leaves}
 use Rattle.mk_pad.proofs.Values.{value-in_field}
 use Rattle.mk_pad.proofs.Entries.{variable-at, polynomial_at-fits}

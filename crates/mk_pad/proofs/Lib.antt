@@ -13,3 +13,7 @@ pub mod Members
 pub mod Rests
 pub mod Hiding
 pub mod Strengths
+pub mod Noting
+pub mod Taking
+pub mod Firsts
+pub mod Choosing

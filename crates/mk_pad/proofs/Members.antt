@@ -1,5 +1,5 @@
 -- Numbers in a list, and tests on lists.
-use Rattle.std.proofs.Common.{◌≡◌, ◌≢◌, ◌⊎◌, inl, inr, ℕ, zero, suc, ◌<◌, length, slice_index, slice_index_or, Bool, true, false, List, [], ◌∷◌, ◌++◌, not, nat_eq, cond, refl, sym, ◌∙◌, ap, subst, arith, eq-eqb, ne_eqb}
+use Rattle.std.proofs.Common.{◌≡◌, ◌≢◌, ◌⊎◌, inl, inr, ℕ, zero, suc, ◌<◌, length, slice_index, slice_index_or, Bool, true, false, List, [], ◌∷◌, not, nat_eq, cond, refl, sym, ◌∙◌, ap, arith, eq-eqb, ne_eqb}
 use Rattle.std.specs.Prelude.{◌||◌}
 use Rattle.std.specs.List.{filter, list_any}
 use Rattle.std.proofs.lemmas.Bool.{cases_eq, false≢true}

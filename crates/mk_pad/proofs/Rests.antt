@@ -1,7 +1,7 @@
 -- The rest of a set is one, whatever the order of taking out.
-use Rattle.std.proofs.Common.{◌≡◌, ◌≢◌, ◌⊎◌, inl, inr, ℕ, Bool, true, false, List, [], ◌∷◌, not, nat_eq, cond, refl, sym, ◌∙◌, ap, subst}
+use Rattle.std.proofs.Common.{◌≡◌, inl, inr, ℕ, Bool, true, false, List, [], ◌∷◌, not, nat_eq, cond, refl, sym, ◌∙◌, ap, subst}
 use Rattle.std.specs.List.{filter, list_any}
-use Rattle.std.proofs.lemmas.Bool.{cases_eq, false≢true}
+use Rattle.std.proofs.lemmas.Bool.{false≢true}
 use Rattle.mk_pad.specs.Form.{GadgetForm}
 use Rattle.mk_pad.specs.Shown.{is_in, without, occurs, polynomial_of, MayTake, Leaves, IsRest}
 use Rattle.mk_pad.proofs.Members.{bool-cases, any-some, any-found, in-first, in-later, in-from_filter, in-from_without, in-without}

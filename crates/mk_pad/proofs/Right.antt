@@ -23,7 +23,7 @@ use Rattle.mk_pad.specs.declared.kind.GadgetKind.TheVariants.{Mul, Refresh}
 use Rattle.mk_pad.specs.declared.term.Term.{Term}
 use Rattle.mk_pad.specs.Form.{GadgetForm, IsGadget, operands, share_count, position_count}
 use Rattle.mk_pad.specs.Polynomial.{value, IsPolynomial, plus}
-use Rattle.mk_pad.specs.Positions.{variable_count, variable, polynomial_at, next_polynomial, polynomials_from, variables, polynomials_of, polynomials, counts_of, counts}
+use Rattle.mk_pad.specs.Positions.{variable_count, variable, polynomial_at, next_polynomial, polynomials_from, variables, polynomials}
 use Rattle.mk_pad.specs.Laws.{PositionsLaw}
 use Rattle.mk_pad.specs.Value.{wanted_value, IsRightAt, HasRightValue, HasWrongValue, sum_all, wanted_polynomial, outs_polynomial, HasRightPolynomials}
 use Rattle.mk_pad.proofs.Combining.{polynomial-nil, polynomial-plus, polynomial-times}
@@ -349,25 +349,14 @@ operands-few Refresh m = omega arith
 pub variables-few : (g : GadgetForm) → IsGadget g → variable_count g < 1000
 variables-few g here = omega (arith, operands-few g.kind (g.order + 1), here.order.1, here.few, randoms-le g.instrs)
 
+-- there are few positions
+pub positions-few : (g : GadgetForm) → IsGadget g → position_count g < 1000
+positions-few g here = omega (arith, operands-few g.kind (g.order + 1), here.order.1, here.few)
+
 -- the number of variables, as the code counts it
 pub own-variables : (g : GadgetForm) (shares count : ℕ) (is : List Instr) → shares ≡ share_count g → is ≡ g.instrs → count ≡ sum (map takes is)
     → shares + count ≡ variable_count g
 own-variables g shares count is same own counted = rw (same, counted, own) (ap (λ (k : ℕ). share_count g + k) (randoms-sum g.instrs))
-
--- a gadget's numbers, as the code has them
-pub own-fit : (g : GadgetForm) (field : FieldId) (shares : ℕ) (is : List Instr) → IsGadget g → field ≡ g.field → shares ≡ share_count g → is ≡ g.instrs
-    → AllFit field 0 shares is
-own-fit g field shares is here same count own = rw (same, count, own) here.fit
-
--- the polynomials of its own instructions
-pub own-polynomials : (g : GadgetForm) (field : FieldId) (n shares : ℕ) (is : List Instr) → field ≡ g.field → n ≡ variable_count g → shares ≡ share_count g → is ≡ g.instrs
-    → polynomials_of field n shares is ≡ polynomials g
-own-polynomials g field n shares is same all count own = rw (same, all, count, own) refl
-
--- and their counts
-pub own-counts : (g : GadgetForm) (field : FieldId) (n shares : ℕ) (is : List Instr) → field ≡ g.field → n ≡ variable_count g → shares ≡ share_count g → is ≡ g.instrs
-    → counts_of field n shares is ≡ counts g
-own-counts g field n shares is same all count own = rw (same, all, count, own) refl
 
 -- the test that the code makes
 pub tests-empty : (g : GadgetForm) (positions : List (List Term)) (p : List Term) (r : Bool) → positions ≡ polynomials g
@@ -381,3 +370,8 @@ tests-empty g positions p r same is test =
 -- the law of a gadget's positions holds
 pub positions_law-holds : (g : GadgetForm) → IsGadget g → PositionsLaw g
 positions_law-holds g here = record { fit = polynomials-fit g here; values = λ shares tape first second. polynomials-run g shares tape here first second }
+
+-- they are polynomials over its field in its variables
+pub own-polynomial-list : (g : GadgetForm) (field : FieldId) (n : ℕ) (positions : List (List Term)) → IsGadget g → field ≡ g.field → n ≡ variable_count g
+    → positions ≡ polynomials g → AllByRecursion (IsPolynomial field n) positions
+own-polynomial-list g field n positions here same all is = rw (same, all, is) (polynomials-fit g here)

@@ -1,8 +1,8 @@
 -- A gadget whose sets are all shown is strong.
-use Rattle.std.proofs.Common.{◌≡◌, ◌≢◌, ◌⊎◌, inl, inr, ℕ, zero, suc, ◌+◌, ◌*◌, ◌≤◌, ◌<◌, Bool, true, false, List, [], ◌∷◌, ◌++◌, length, map, not, nat_eq, nat_lt, slice_index, cond, if◌then◌else◌, refl, sym, ◌∙◌, ap, subst, arith, eq-eqb, ne_eqb, length-append, drop, ◌-◌, suc-mul, zero-mul}
+use Rattle.std.proofs.Common.{◌≡◌, ◌⊎◌, inl, inr, ℕ, zero, suc, ◌+◌, ◌*◌, ◌≤◌, ◌<◌, Bool, true, false, List, [], ◌∷◌, ◌++◌, length, map, not, nat_eq, nat_lt, slice_index, cond, if◌then◌else◌, refl, sym, ◌∙◌, ap, subst, arith, eq-eqb, ne_eqb, length-append, drop, ◌-◌, suc-mul, zero-mul}
 use Rattle.std.proofs.Math.Nat.{mul_comm}
 use Rattle.std.specs.Prelude.{◌||◌}
-use Rattle.std.specs.List.{AllByRecursion, Contains, filter, list_any, count_by, range_with_len}
+use Rattle.std.specs.List.{AllByRecursion, Contains, filter, count_by, range_with_len}
 use Rattle.std.proofs.lemmas.Bool.{cases_eq, cases_lt, false≢true, lt-ltb, le-ltb}
 use Rattle.std.proofs.lemmas.List.{map-append, get_or-map, length-map}
 use Rattle.std.proofs.lemmas.Simd.{map-map}
@@ -20,14 +20,13 @@ use Rattle.mk_code.proofs.Totals.{total-same}
 use Rattle.mk_gadget.specs.Steady.{block_view, block_ways, DependsAt, IsStrong}
 use Rattle.mk_gadget.proofs.Coupling.{depends-unpublic}
 use Rattle.mk_gadget.proofs.Steady.{map-same}
-use Rattle.mk_pad.specs.declared.kind.GadgetKind.{GadgetKind}
 use Rattle.mk_pad.specs.Form.{GadgetForm, IsGadget, operands, share_count, position_count}
 use Rattle.mk_pad.specs.Polynomial.{value}
-use Rattle.mk_pad.specs.Positions.{variable_count, polynomial_at, polynomials}
-use Rattle.mk_pad.specs.Shown.{occurs, polynomial_of, is_in, Leaves, IsRest, occurs_in, shares_in, inner, IsShown, Ascend, IsSet, AreAllShown, standing, MayTake}
+use Rattle.mk_pad.specs.Positions.{polynomials}
+use Rattle.mk_pad.specs.Shown.{occurs, polynomial_of, is_in, Leaves, occurs_in, inner, IsShown, Ascend, AreAllShown, standing}
 use Rattle.mk_pad.proofs.Entries.{value-at}
 use Rattle.mk_pad.proofs.Right.{polynomials-length, polynomials-run}
-use Rattle.mk_pad.proofs.Members.{or-cases, or-none, or-second, bool-cases, any-some, in-first, in-later, in-cases, in-filter, in-from_filter, not-true, eq-of_test}
+use Rattle.mk_pad.proofs.Members.{any-some, in-first, in-later, in-cases, in-filter, not-true}
 use Rattle.mk_pad.proofs.Hiding.{at, rest-decides}
 
 -- ---- numbers that a test keeps

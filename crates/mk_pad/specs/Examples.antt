@@ -1,5 +1,6 @@
 -- Small gadgets, and their polynomials.
 use Rattle.std.specs.Prelude.{◌≡◌, ℕ, ◌+◌, take, false, not, List, [], ◌∷◌, slice_index, refl}
+use Rattle.std.proofs.Common.{inl, inr, arith}
 use Rattle.std.specs.List.{list_any}
 use Rattle.mk_field.specs.declared.field.FieldId.TheVariants.{Gf2, Gf256}
 use Rattle.mk_field.specs.Field.{sum_bits, raised}
@@ -12,6 +13,7 @@ use Rattle.mk_pad.specs.Form.{GadgetForm, share_count}
 use Rattle.mk_pad.specs.Shown.{occurs, IsAdded, polynomial_of, shares_in, inner}
 use Rattle.mk_pad.specs.Polynomial.{monomial_at, value, with_term, exponents_sum, plus}
 use Rattle.mk_pad.specs.Positions.{polynomials_from, polynomials, counts_from, counts}
+use Rattle.mk_pad.specs.Verified.{choose, sets_up_to, Precedes, ComesBefore}
 use Rattle.mk_pad.specs.Value.{outs_polynomial, wanted_polynomial, wanted_value}
 
 -- the product of two bits with two shares each: the cells of the cross products are hidden by one random element
@@ -166,3 +168,38 @@ exponents-sum = refl
 pub wanted-57-83 : wanted_value Gf256 Mul 2 (0x02 ∷ 0x55 ∷ 0xd6 ∷ 0x55 ∷ []) ≡ 0xc1
 unfolding field_sum sum_bits
 wanted-57-83 = refl
+
+-- of five things there are 5 and 10 sets of one and two, and of six there are 20 of three
+pub sets-of_five : sets_up_to 5 2 ≡ 15
+unfolding sets_up_to choose
+sets-of_five = refl
+
+pub sets-of_six : choose 6 3 ≡ 20
+unfolding choose
+sets-of_six = refl
+
+-- no set has more things than there are
+pub sets-of_two : choose 2 3 ≡ 0
+unfolding choose
+sets-of_two = refl
+
+-- one position comes before two, and of two sets of one size the one with the smaller number where they first differ
+pub single-first : ComesBefore (9 ∷ []) (4 ∷ 5 ∷ [])
+single-first = inl (omega arith)
+
+pub smaller-first : ComesBefore (4 ∷ 5 ∷ []) (4 ∷ 6 ∷ [])
+unfolding Precedes
+smaller-first = inr (refl, inr (refl, inl (omega arith)))
+
+pub larger-last : ComesBefore (4 ∷ 6 ∷ []) (4 ∷ 5 ∷ []) → ⊥
+unfolding Precedes
+larger-last before = elim before [
+  | inl less ↦ absurd (omega (arith, less))
+  | inr same ↦ elim same.1 [
+    | inl less ↦ absurd (omega (arith, less))
+    | inr equal ↦ elim equal.1 [
+      | inl less ↦ absurd (omega (arith, less))
+      | inr again ↦ again.1
+    ]
+  ]
+]

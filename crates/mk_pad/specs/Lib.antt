@@ -4,4 +4,6 @@ pub mod Positions
 pub mod Value
 pub mod Laws
 pub mod Shown
+pub mod Verified
+pub mod Looking
 pub mod Examples

@@ -1,7 +1,7 @@
 -- Polynomials over a field in some variables, whose exponents are reduced: since an element raised to the
 -- size of the field is itself, no exponent is as great as the size. They are reduced polynomials in the
 -- sense of Lidl and Niederreiter, Finite Fields.
-use Rattle.std.specs.Prelude.{◌≢◌, ℕ, zero, suc, ◌+◌, ◌-◌, ◌<◌, List, [], ◌∷◌, map, fold, nat_eq, nat_lt, if◌then◌else◌, bit_xor}
+use Rattle.std.specs.Prelude.{◌≢◌, ℕ, ◌+◌, ◌-◌, ◌<◌, List, [], ◌∷◌, map, fold, nat_eq, nat_lt, if◌then◌else◌, bit_xor}
 use Rattle.std.specs.List.{AllByRecursion, flat_map}
 use Rattle.std.specs.Str.{bytes_eq}
 use Rattle.mk_field.specs.declared.field.FieldId.{FieldId}

@@ -1,26 +1,54 @@
 //! The polynomials of a gadget's positions.
 
-ghost use Rattle.std.specs.Prelude.{◌≡◌, ◌+◌, ◌≤◌, ◌<◌, ◌^◌, length, IfOk, OnOk, IfErr, ◌⊎◌};
+ghost use Rattle.std.specs.Prelude.{◌≡◌, ◌+◌, ◌≤◌, ◌<◌, ◌^◌, length, map, sum, IfOk, OnOk, IfErr, ◌⊎◌};
 ghost use Rattle.std.specs.List.{AllByRecursion};
 ghost use Rattle.mk_code.specs.Listing.{FitsAt, AllFit};
 ghost use Rattle.mk_code.specs.Trace.{takes, randoms};
+ghost use Rattle.mk_pad.specs.declared.TheConstants.{MOST_GADGET_INSTRS};
+ghost use Rattle.mk_pad.specs.Form.{share_count};
 ghost use Rattle.mk_pad.specs.Polynomial.{IsPolynomial};
-ghost use Rattle.mk_pad.specs.Positions.{polynomial_at, next_polynomial, term_count, variables, polynomials_of, counts_of, AreFew, IsRefused};
+ghost use Rattle.mk_pad.specs.Positions.{polynomial_at, next_polynomial, term_count, variable_count, variables, polynomials, polynomials_of, counts, counts_of, AreFew, IsRefused};
 
 use crate::MOST_TERMS;
+use crate::gadget::Gadget;
 use crate::refusal::PadRefusal;
 use crate::ring::{Polynomial, Ring};
 use crate::term::Term;
 use mk_base::{Items, Memory};
 use mk_code::Instr;
+use std::alloc::Global;
+
+/// The ring of the polynomials of a gadget's positions.
+pub(crate) fn ring_of(alloc: Global, gadget: &Gadget) -> Ring
+    ensures field { result.field ≡ gadget.now.field }
+    ensures variables { result.variables ≡ variable_count gadget.now }
+{
+    gadget.law();
+    Ring {
+        alloc,
+        field: gadget.field(),
+        variables: count_shares(gadget) + count_randoms(gadget.instrs().as_slice()),
+    }
+}
+
+/// The polynomials of all positions of a gadget, in its ring.
+pub(crate) fn gadget_polynomials(
+    ring: &Ring,
+    gadget: &Gadget,
+) -> Result<Items<Polynomial>, PadRefusal>
+    requires field { ring.now.field ≡ gadget.now.field }
+    requires variables { ring.now.variables ≡ variable_count gadget.now }
+    ensures polynomials { IfOk result (λ positions. positions ≡ polynomials gadget.now) }
+    ensures few { OnOk result (AreFew (counts gadget.now)) }
+    ensures refused { IfErr result (λ e. (e ≡ PadRefusal.Memory) ⊎ IsRefused (counts gadget.now) e) }
+{
+    gadget.law();
+    polynomials(ring, count_shares(gadget), gadget.instrs().as_slice())
+}
 
 /// The polynomials of all positions of some instructions that stand behind so many shares: those of the shares,
 /// and then those of the instructions.
-pub(crate) fn polynomials(
-    ring: &Ring,
-    shares: u32,
-    instrs: &[Instr],
-) -> Result<Items<Polynomial>, PadRefusal>
+fn polynomials(ring: &Ring, shares: u32, instrs: &[Instr]) -> Result<Items<Polynomial>, PadRefusal>
     requires variables { shares + randoms instrs.now ≡ ring.now.variables }
     requires fit { AllFit ring.now.field 0 shares instrs.now }
     ensures polynomials { IfOk result (λ positions. positions ≡ polynomials_of ring.now.field ring.now.variables shares instrs.now) }
@@ -112,4 +140,19 @@ fn polynomial_of(
         Instr::Sq { from } => ring.squared(terms_of(positions, from)),
         Instr::Map { .. } => Ok(Items::new(ring.alloc)),
     }
+}
+
+/// How many shares the operands have together.
+pub(crate) fn count_shares(gadget: &Gadget) -> u32
+    ensures { result ≡ share_count gadget.now }
+{
+    gadget.kind().operands() * (u32::from(gadget.order()) + 1)
+}
+
+/// How many random elements the instructions take.
+fn count_randoms(instrs: &[Instr]) -> u32
+    requires { length instrs.now ≤ MOST_GADGET_INSTRS }
+    ensures { result ≡ sum (map takes instrs.now) }
+{
+    instrs.iter().map(|instr| instr.randoms()).sum()
 }

@@ -3,20 +3,17 @@
 ghost use Rattle.std.specs.Prelude.{◌≡◌, ◌+◌, ◌*◌, ◌≤◌, ◌<◌, ◌⊎◌, ◌↔◌, [], length, map, All, IfOk, OnOk, IfErr, IsTrue, sum, take};
 ghost use Rattle.std.specs.List.{AllByRecursion};
 ghost use Rattle.mk_pad.specs.Form.{operands, share_count, position_count};
-ghost use Rattle.mk_pad.specs.declared.TheConstants.{MOST_GADGET_INSTRS};
-ghost use Rattle.mk_code.specs.Trace.{takes};
 ghost use Rattle.mk_pad.specs.Polynomial.{IsPolynomial, plus};
 ghost use Rattle.mk_pad.specs.Positions.{polynomial_at, counts, AreFew, IsRefused};
 ghost use Rattle.mk_pad.specs.Value.{sum_all, wanted_polynomial, HasRightPolynomials, HasRightValue, HasWrongValue};
 
 use crate::gadget::Gadget;
 use crate::kind::GadgetKind;
-use crate::positions::polynomials;
+use crate::positions::{count_shares, gadget_polynomials, ring_of};
 use crate::refusal::PadRefusal;
 use crate::ring::{Polynomial, Ring};
 use crate::terms::add_terms;
 use mk_base::{Items, Memory};
-use mk_code::Instr;
 use std::alloc::Global;
 
 /// Whether a gadget's value is right: whether the sum of the polynomials of its outs is the polynomial of the
@@ -31,27 +28,15 @@ pub fn right_value(alloc: Global, gadget: &Gadget) -> Result<bool, PadRefusal>
     ensures refused { IfErr result (λ e. (e ≡ PadRefusal.Memory) ⊎ IsRefused (counts gadget.now) e) }
 {
     gadget.law();
-    let instrs = gadget.instrs().as_slice();
-    let shares = count_shares(gadget);
-    let ring = Ring {
-        alloc,
-        field: gadget.field(),
-        variables: shares + count_randoms(instrs),
-    };
-    let positions = polynomials(&ring, shares, instrs)?;
-    let difference = differences(&ring, gadget, shares, positions.as_slice())?;
+    let ring = ring_of(alloc, gadget);
+    let positions = gadget_polynomials(&ring, gadget)?;
+    let difference = differences(&ring, gadget, positions.as_slice())?;
     Ok(difference.is_empty())
 }
 
 /// The sum of the polynomials of the outs and of the wanted polynomial.
-fn differences(
-    ring: &Ring,
-    gadget: &Gadget,
-    shares: u32,
-    positions: &[Polynomial],
-) -> Result<Polynomial, Memory>
+fn differences(ring: &Ring, gadget: &Gadget, positions: &[Polynomial]) -> Result<Polynomial, Memory>
     requires field { ring.now.field ≡ gadget.now.field }
-    requires shares { shares ≡ share_count gadget.now }
     requires count { length positions.now ≡ position_count gadget.now }
     requires polynomials { AllByRecursion (IsPolynomial ring.now.field ring.now.variables) positions.now }
     ensures { IfOk result (λ p. p ≡ plus (sum_all (map (polynomial_at positions.now) gadget.now.outs)) (wanted_polynomial gadget.now.field gadget.now.kind (gadget.now.order + 1) (take (share_count gadget.now) positions.now))) }
@@ -59,7 +44,12 @@ fn differences(
     gadget.law();
     let outs = sum_at(ring, positions, gadget.outs().as_slice())?;
     let each = usize::from(gadget.order()) + 1;
-    let wanted = wanted(ring, gadget.kind(), each, &positions[..shares as usize])?;
+    let wanted = wanted(
+        ring,
+        gadget.kind(),
+        each,
+        &positions[..count_shares(gadget) as usize],
+    )?;
     ring.plus(outs.as_slice(), wanted.as_slice())
 }
 
@@ -96,19 +86,4 @@ fn wanted(
         }
         GadgetKind::Refresh => ring.sum(shares),
     }
-}
-
-/// How many shares the operands have together.
-fn count_shares(gadget: &Gadget) -> u32
-    ensures { result ≡ share_count gadget.now }
-{
-    gadget.kind().operands() * (u32::from(gadget.order()) + 1)
-}
-
-/// How many random elements the instructions take.
-fn count_randoms(instrs: &[Instr]) -> u32
-    requires { length instrs.now ≤ MOST_GADGET_INSTRS }
-    ensures { result ≡ sum (map takes instrs.now) }
-{
-    instrs.iter().map(|instr| instr.randoms()).sum()
 }

@@ -4,6 +4,8 @@
 #![tactic(auto)]
 
 #[cfg(test)]
+mod gadgets;
+#[cfg(test)]
 mod hostile;
 #[cfg(test)]
 mod outside;

@@ -1,6 +1,5 @@
 -- The bytes of a command's input decide one answer.
 use Rattle.std.proofs.Common.{◌≡◌, ℕ, ◌<◌, ◌≤◌, List, [], ◌++◌, Option, Some, None, length, inl, inr, refl, sym, ◌∙◌, ap, subst, arith, ◌⊎◌}
-use Rattle.std.proofs.lemmas.Bool.{cases_lt}
 use Rattle.std.proofs.lemmas.List.{append-nil}
 use Rattle.mk_base.specs.declared.Place.{Place}
 use Rattle.mk_code.specs.Listing.{Listing}
@@ -14,7 +13,7 @@ use Rattle.mk_words.specs.declared.fault.SourceFault.{SourceFault}
 use Rattle.mk_words.specs.declared.fault.SourceFault.TheVariants as source
 use Rattle.mk_words.specs.declared.fault.CheckFault.{CheckFault}
 use Rattle.mk_words.specs.declared.fault.CheckFault.TheVariants as check
-use Rattle.mk_words.specs.Words.{Command, Compile, Check, Eval, Run, Count, Report, Gen, Trial, Table, GivenTape}
+use Rattle.mk_words.specs.Words.{Command, Compile, Check, Eval, Run, Count, Report, Gen, Trial, Table, Gadget, GivenTape}
 use Rattle.mk_parse.proofs.Refusals.{one_place, one_program}
 use Rattle.mk_unroll.specs.Causes.{Cause}
 use Rattle.mk_ast.specs.declared.tree.Program.{Program as Tree}
@@ -31,6 +30,7 @@ use Rattle.mk_top.specs.Sources.{IsNoSource}
 use Rattle.mk_top.specs.Faults.{fault_of_source}
 use Rattle.mk_top.proofs.Tried.{trial-one}
 use Rattle.mk_top.proofs.Tabled.{table-one}
+use Rattle.mk_top.proofs.Judged.{gadget-one, names-one}
 use Rattle.mk_top.proofs.Causes.{cause-once, cause-outside}
 use Rattle.mk_top.specs.Decided.{refusal_of, PairDecides, BundleDecides, SourceDecides, CompileDecides, EvalDecides, RunDecides, CountDecides, TextDecides, Decides, limit_of}
 
@@ -139,17 +139,6 @@ compile-one order tree (Some f) (Some g) first second =
 eval-one : (publics secrets : List ℕ) (tree : Tree) (a b : Option Fault) → EvalDecides publics secrets tree a → EvalDecides publics secrets tree b → a ≡ b
 eval-one publics secrets tree a b first second = first ∙ sym second
 
--- the line that is named is one
-names-one : (bytes : List ℕ) (m n : ℕ) → NamesFirst IsBundleText m bytes → NamesFirst IsBundleText n bytes → m ≡ n
-names-one bytes m n first second =
-    elim (cases_lt m n) [
-      | inl below ↦ absurd (first.1 (second.2 m below))
-      | inr above ↦ elim (cases_lt n m) [
-        | inl below ↦ absurd (second.1 (first.2 n below))
-        | inr same ↦ omega (arith, above, same)
-      ]
-    ]
-
 -- and a code and certificate decide one answer under `run`
 run-one : (publics secrets : List ℕ) (tape : GivenTape) (code : Listing) (cert : Claimed) (a b : Option Fault)
     → RunDecides publics secrets tape code cert a → RunDecides publics secrets tape code cert b → a ≡ b
@@ -200,7 +189,7 @@ module _ (differ : TextsDiffer) where
   bundle-one : (decides : Listing → Claimed → Option Fault → Type 0)
       → ((code : Listing) (cert : Claimed) (a b : Option Fault) → decides code cert a → decides code cert b → a ≡ b)
       → (bytes : List ℕ) (a b : Option Fault) → Bundled decides bytes a → Bundled decides bytes b → a ≡ b
-  bundle-one decides one bytes a b (wrong m e names none) (wrong n f others never) = e ∙ ap (λ (l : ℕ). Some (fault.Bundle l)) (names-one bytes m n names others) ∙ sym f
+  bundle-one decides one bytes a b (wrong m e names none) (wrong n f others never) = e ∙ ap (λ (l : ℕ). Some (fault.Bundle l)) (names-one IsBundleText bytes m n names others) ∙ sym f
   bundle-one decides one bytes a b (wrong m e names none) (paired p) = absurd (none (p.code, p.cert, p.spelled))
   bundle-one decides one bytes a b (paired p) (wrong n f others never) = absurd (never (p.code, p.cert, p.spelled))
   bundle-one decides one bytes a b (paired p) (paired q) = pairs-one decides one bytes a b p q
@@ -221,6 +210,7 @@ module _ (differ : TextsDiffer) where
   text-one (Gen turns) bytes a b first second = first ∙ sym second
   text-one (Trial turns order) bytes a b first second = trial-one turns order a b first second
   text-one Table bytes a b first second = table-one bytes a b first second
+  text-one Gadget bytes a b first second = gadget-one bytes a b first second
 
   -- the input of a command decides one answer
   pub decides-one : (command : Command) (bytes : List ℕ) (a b : Option Fault) → Decides command bytes a → Decides command bytes b → a ≡ b

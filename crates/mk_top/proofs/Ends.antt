@@ -12,7 +12,7 @@ use Rattle.mk_top.specs.declared.answer.Answer.{Answer}
 use Rattle.mk_top.specs.declared.answer.Answer.TheVariants as answer
 use Rattle.mk_top.specs.declared.fault.Fault.{Fault}
 use Rattle.mk_top.specs.declared.fault.Fault.TheVariants as fault_
-use Rattle.mk_words.specs.Words.{Command, Compile, Check, Eval, Run, Count, Report, Gen, Trial, Table, GivenTape, Seed, Tape, SaysElements, SaysTape, SaysProbes, Asks}
+use Rattle.mk_words.specs.Words.{Command, Compile, Check, Eval, Run, Count, Report, Gen, Trial, Table, Gadget, GivenTape, Seed, Tape, SaysElements, SaysTape, SaysProbes, Asks}
 use Rattle.mk_words.specs.Forms.{AreElements, IsTapeForm, SaysTapeSo, AsksSo}
 use Rattle.mk_top.specs.Forms.{OfElements, OfRun, OfCount, IsGivenBy}
 use Rattle.mk_words.specs.declared.command.Form.{Form}
@@ -22,7 +22,7 @@ use Rattle.mk_words.specs.declared.command.TapeForm.TheVariants as tape_
 use Rattle.mk_top.specs.Faults.{status_of, fault_of_eval, fault_of_run, fault_of_count}
 use Rattle.mk_top.specs.Decided.{Decides, TextDecides, limit_of}
 use Rattle.mk_top.specs.Headline.{Makes, TakesWhole, TakesSome}
-use Rattle.mk_top.specs.Because.{ReadWhole, Reads, input_of, Because, IsOrMemory, answer_status, IsAnswerOf}
+use Rattle.mk_top.specs.Because.{ReadWhole, ReadsToEnd, Reads, input_of, Because, IsOrMemory, answer_status, IsAnswerOf}
 use Rattle.mk_top.specs.Seen.{Seen}
 use Rattle.mk_top.specs.Running.{Finished, StoppedAt, Stopped, ReadsOrLeaves, NotMade, NoText, Made, IsMade, IsUnmade, text_of, answered}
 use Rattle.mk_words.proofs.Asking.{asks-one}
@@ -48,6 +48,7 @@ makes-decides words Report bytes written asks makes within = (within, (makes.cod
 makes-decides words (Gen turns) bytes written asks makes within = (within, refl)
 makes-decides words (Trial turns order) bytes written asks makes within = (within, tries-decides turns order written asks.3.1 asks.3.2 makes)
 makes-decides words Table bytes written asks makes within = (within, ap (λ (bs : List ℕ). length bs) (sym makes.taken) ∙ makes.whole)
+makes-decides words Gadget bytes written asks makes within = (within, (makes.gadget, makes.text, (makes.few_sets, makes.few_terms)))
 
 module _ (words : List (List ℕ)) (input output : Seen) where
   -- a run that stopped under words that ask for a command stopped at this command
@@ -109,6 +110,12 @@ stopped-because command input output (fault_.Bundle line) s =
     within-decides command input (λ bs. TextDecides command bs (Some (fault_.Bundle line))) s.1 s.0
 stopped-because command input output (fault_.Tapes elements) s =
     within-decides command input (λ bs. TextDecides command bs (Some (fault_.Tapes elements))) s.1 s.0
+stopped-because command input output (fault_.Gadget line) s =
+    within-decides command input (λ bs. TextDecides command bs (Some (fault_.Gadget line))) s.1 s.0
+stopped-because command input output (fault_.Sets sets) s =
+    within-decides command input (λ bs. TextDecides command bs (Some (fault_.Sets sets))) s.1 s.0
+stopped-because command input output (fault_.Terms terms) s =
+    within-decides command input (λ bs. TextDecides command bs (Some (fault_.Terms terms))) s.1 s.0
 stopped-because command input output fault_.ReadFault s = (s.1, s.2)
 stopped-because command input output fault_.WriteFault s = s.rose
 stopped-because command input output fault_.Memory s = tt
@@ -126,6 +133,9 @@ stopped-answer command input output fault_.ReadFault s = s.0
 stopped-answer command input output fault_.WriteFault s = tt
 stopped-answer command input output fault_.Memory s = tt
 stopped-answer command input output (fault_.Tapes elements) s = s.2
+stopped-answer command input output (fault_.Gadget line) s = s.2
+stopped-answer command input output (fault_.Sets sets) s = s.2
+stopped-answer command input output (fault_.Terms terms) s = s.2
 stopped-answer command input output (fault_.TooLong at) s = s.0
 
 -- a command that stopped where the output failed had its text made, and a prefix of it taken
@@ -141,7 +151,27 @@ stopped-cut command input output fault_.ReadFault s is = absurd cc
 stopped-cut command input output fault_.WriteFault s is = (s.written, s.made.makes, s.some)
 stopped-cut command input output fault_.Memory s is = absurd cc
 stopped-cut command input output (fault_.Tapes elements) s is = absurd cc
+stopped-cut command input output (fault_.Gadget line) s is = absurd cc
+stopped-cut command input output (fault_.Sets sets) s is = absurd cc
+stopped-cut command input output (fault_.Terms terms) s is = absurd cc
 stopped-cut command input output (fault_.TooLong at) s is = absurd cc
+
+-- a command that stopped has read its input to the end, but where the answer tells that it didn't
+pub stopped-read : (command : Command) (input output : Seen) (fault : Fault) → StoppedAt command input output fault → ReadsToEnd (status_of fault)
+    → ReadWhole (limit_of command) (input_of command input.before) (input_of command input.after)
+stopped-read command input output fault_.Words s ends = absurd s
+stopped-read command input output (fault_.Source why) s ends = s.1
+stopped-read command input output (fault_.Inputs why) s ends = s.1
+stopped-read command input output (fault_.Check why) s ends = s.1
+stopped-read command input output (fault_.Bundle line) s ends = s.1
+stopped-read command input output (fault_.Gadget line) s ends = s.1
+stopped-read command input output (fault_.Sets sets) s ends = s.1
+stopped-read command input output (fault_.Terms terms) s ends = s.1
+stopped-read command input output fault_.ReadFault s ends = absurd (ends.1 refl)
+stopped-read command input output fault_.WriteFault s ends = s.made.read
+stopped-read command input output fault_.Memory s ends = absurd (ends.2 refl)
+stopped-read command input output (fault_.Tapes elements) s ends = s.1
+stopped-read command input output (fault_.TooLong at) s ends = absurd (ends.3 refl)
 
 -- the text that the command made which the words ask for
 abbrev pub IsTextMade : List (List ℕ) → Seen → List ℕ → Type 0
@@ -370,6 +400,7 @@ asked-leaves words form.Report left asks leaves = inr (Report, asks, inl tt)
 asked-leaves words (form.Gen turns) left asks leaves = inr (Gen turns, asks, inr leaves)
 asked-leaves words (form.Trial turns order) left asks leaves = inr (Trial turns order, asks, inr leaves)
 asked-leaves words form.Table left asks leaves = inr (Table, asks, inl tt)
+asked-leaves words form.Gadget left asks leaves = inr (Gadget, asks, inl tt)
 
 -- a command that reads nothing left its input
 pub left-unread : (words : List (List ℕ)) (command : Command) (left : Type 0) → ReadsOrLeaves words left → Asks words command → (Reads command → ⊥) → left
@@ -413,6 +444,9 @@ module _ (differ : TextsDiffer) where
           absurd (still (decides-one differ command bytes answer None decides (made-decides words command input s.written bytes is asks s.made)) s.rose)
       go bytes is fault_.Memory s decides = inr refl
       go bytes is (fault_.Tapes elements) s decides = decided-text command bytes input (fault_.Tapes elements) answer is s.0 s.1 (λ d. d) decides
+      go bytes is (fault_.Gadget line) s decides = decided-text command bytes input (fault_.Gadget line) answer is s.0 s.1 (λ d. d) decides
+      go bytes is (fault_.Sets sets) s decides = decided-text command bytes input (fault_.Sets sets) answer is s.0 s.1 (λ d. d) decides
+      go bytes is (fault_.Terms terms) s decides = decided-text command bytes input (fault_.Terms terms) answer is s.0 s.1 (λ d. d) decides
       go bytes is (fault_.TooLong at) s decides =
           let long : limit_of command < length bytes = of-some (input_of command input.before) bytes (λ (bs : List ℕ). limit_of command < length bs) is s.2 in
           decided-fault command bytes (fault_.TooLong at) answer (s.1, subst (λ (l : ℕ). l < length bytes) (sym s.1) long) decides

@@ -7,7 +7,7 @@ use Rattle.mk_base.specs.Outside.{Rose}
 use Rattle.mk_base.specs.Streams.{ReadsAll, CameWithin}
 use Rattle.mk_top.specs.declared.fault.Fault.{Fault}
 use Rattle.mk_top.specs.declared.fault.Fault.TheVariants as fault_
-use Rattle.mk_words.specs.Words.{Command, Compile, Check, Eval, Run, Count, Report, Gen, Trial, Table, GivenTape}
+use Rattle.mk_words.specs.Words.{Command, Compile, Check, Eval, Run, Count, Report, Gen, Trial, Table, Gadget, GivenTape}
 use Rattle.mk_code.specs.Listing.{Listing}
 use Rattle.mk_code.specs.Private.{Private}
 use Rattle.mk_rules.specs.Claimed.{Claimed}
@@ -50,6 +50,7 @@ use Rattle.mk_top.proofs.Bundles.{of-given, text-given}
 use Rattle.mk_top.proofs.Counted.{counts-given}
 use Rattle.mk_top.proofs.Reported.{reports-given}
 use Rattle.mk_top.proofs.Tabled.{tabulates-given}
+use Rattle.mk_top.proofs.Judged.{judges-given}
 use Rattle.mk_top.proofs.Causes.{IsLimitOrIndex, cause-kind}
 use Rattle.mk_top.proofs.Texts.{short-text}
 
@@ -124,6 +125,7 @@ makes-given Report given after bytes written read makes = reports-given given af
 makes-given (Gen turns) given after bytes written read makes = makes
 makes-given (Trial turns order) given after bytes written read makes = makes
 makes-given Table given after bytes written read makes = tabulates-given given after bytes written read makes
+makes-given Gadget given after bytes written read makes = judges-given given after bytes written read makes
 
 -- so the text that is made of what was read is the command's
 pub made-given : (command : Command) (input : Seen) (bytes : List ℕ) (r : Result (List ℕ) Fault)
@@ -199,6 +201,10 @@ answer-of (Trial turns order) bytes (fault_.Source why) decides = tt
 answer-of (Trial turns order) bytes f decides = absurd decides
 answer-of Table bytes (fault_.Inputs why) decides = tt
 answer-of Table bytes f decides = absurd decides
+answer-of Gadget bytes (fault_.Gadget line) decides = tt
+answer-of Gadget bytes (fault_.Sets sets) decides = tt
+answer-of Gadget bytes (fault_.Terms terms) decides = tt
+answer-of Gadget bytes f decides = absurd decides.2
 
 -- a fault that the bytes of the text decide, said of the input
 text-decides : (command : Command) (input : Seen) (bytes : List ℕ) (fault : Fault)
@@ -226,6 +232,9 @@ not_made-given command input bytes fault_.ReadFault within read why = absurd why
 not_made-given command input bytes fault_.WriteFault within read why = why
 not_made-given command input bytes fault_.Memory within read why = tt
 not_made-given command input bytes (fault_.Tapes elements) within read why = text-decides command input bytes (fault_.Tapes elements) within read why
+not_made-given command input bytes (fault_.Gadget line) within read why = text-decides command input bytes (fault_.Gadget line) within read why
+not_made-given command input bytes (fault_.Sets sets) within read why = text-decides command input bytes (fault_.Sets sets) within read why
+not_made-given command input bytes (fault_.Terms terms) within read why = text-decides command input bytes (fault_.Terms terms) within read why
 not_made-given command input bytes (fault_.TooLong at) within read why = absurd why
 
 -- the same of an answer
@@ -370,6 +379,7 @@ no_bundle input why rose denies (Eval ps ss) takes = absurd takes
 no_bundle input why rose denies (Gen turns) takes = absurd takes
 no_bundle input why rose denies (Trial turns order) takes = absurd takes
 no_bundle input why rose denies Table takes = absurd takes
+no_bundle input why rose denies Gadget takes = absurd takes
 
 -- what a command makes of the text of a bundle that was read to its end
 pub made-collected : (command : Command) (input : Seen) (bundle : Bundle) (r : Result (List ℕ) Fault) → TakesBundle command
@@ -388,6 +398,7 @@ made-collected (Eval ps ss) input bundle r takes read makes = absurd takes
 made-collected (Gen turns) input bundle r takes read makes = absurd takes
 made-collected (Trial turns order) input bundle r takes read makes = absurd takes
 made-collected Table input bundle r takes read makes = absurd takes
+made-collected Gadget input bundle r takes read makes = absurd takes
 
 -- and why it makes nothing of it
 pub no_text-collected : {X : Type 0} (command : Command) (input : Seen) (bundle : Bundle) (r : Result X Fault) → TakesBundle command
@@ -406,3 +417,4 @@ no_text-collected (Eval ps ss) input bundle r takes read why = absurd takes
 no_text-collected (Gen turns) input bundle r takes read why = absurd takes
 no_text-collected (Trial turns order) input bundle r takes read why = absurd takes
 no_text-collected Table input bundle r takes read why = absurd takes
+no_text-collected Gadget input bundle r takes read why = absurd takes

@@ -11,5 +11,6 @@ pub mod Ends
 pub mod Lines
 pub mod Tried
 pub mod Tabled
+pub mod Judged
 pub mod Counted
 pub mod Reported

@@ -1,5 +1,5 @@
 -- One event more of a bundle that is being read.
-use Rattle.std.proofs.Common.{◌≡◌, ℕ, ◌+◌, ◌≤◌, ◌<◌, List, [], ◌∷◌, ◌++◌, length, Option, Some, None, IfSome, IfOk, IfErr, OnOk, Result, Ok, Err, refl, sym, ap, ◌∙◌, subst, arith}
+use Rattle.std.proofs.Common.{◌≡◌, ℕ, ◌≤◌, ◌<◌, List, [], ◌∷◌, ◌++◌, Option, Err, refl, sym, ◌∙◌, subst, arith}
 use Rattle.std.specs.Prelude.{All, codes}
 use Rattle.std.specs.List.{AllByRecursion}
 use Rattle.std.proofs.lemmas.List.Elements.{All-from_recursion, All-nil}
@@ -21,11 +21,9 @@ use Rattle.mk_bundle.specs.declared.event.Event.TheVariants as event
 use Rattle.mk_bundle.specs.declared.refusal.StreamRefusal.{StreamRefusal}
 use Rattle.mk_bundle.specs.declared.refusal.StreamRefusal.TheVariants as refusals
 use Rattle.mk_bundle.specs.Reads.{Reader, Read, Answers, Denies}
-use Rattle.mk_bundle.specs.Events.{AreFirst}
 use Rattle.mk_bundle.proofs.Coming.{comes_kept, comes_more, end_from}
 use Rattle.mk_bundle.proofs.Ending.{denies_later, last_completes}
 use Rattle.mk_words.specs.Words.{Check}
-use Rattle.mk_top.specs.declared.fault.Fault.{Fault}
 use Rattle.mk_top.specs.Faults.{fault_of_bundle, fault_of_check}
 use Rattle.mk_top.specs.Seen.{Seen}
 use Rattle.mk_top.specs.Reading.{Reading, GivesBundle, IsInput}

@@ -22,7 +22,14 @@ use Rattle.mk_eval.specs.Refusals.{refusal}
 use Rattle.mk_run.specs.Refusals.{count_refusal, whole_refusal}
 use Rattle.mk_compile.specs.Compiled.{IsWithin}
 use Rattle.mk_table.specs.declared.TheConstants.{TABLE_BYTES}
-use Rattle.mk_words.specs.Words.{Command, Compile, Check, Eval, Run, Count, Report, Gen, Trial, Table, GivenTape}
+use Rattle.mk_pad.specs.declared.TheConstants.{MOST_SETS}
+use Rattle.mk_pad.specs.declared.refusal.PadRefusal.TheVariants as unverified
+use Rattle.mk_pad.specs.Form.{GadgetForm}
+use Rattle.mk_pad.specs.Positions.{counts, AreFew}
+use Rattle.mk_pad.specs.Verified.{set_count, IsUnverified}
+use Rattle.mk_lib.specs.declared.TheConstants.{MOST_GADGET_BYTES}
+use Rattle.mk_lib.specs.Texts as gadgets
+use Rattle.mk_words.specs.Words.{Command, Compile, Check, Eval, Run, Count, Report, Gen, Trial, Table, Gadget, GivenTape}
 use Rattle.mk_top.specs.declared.fault.Fault.{Fault}
 use Rattle.mk_top.specs.declared.fault.Fault.TheVariants as fault
 use Rattle.mk_words.specs.declared.fault.SourceFault.TheVariants as source
@@ -33,7 +40,7 @@ use Rattle.mk_top.specs.Sources.{HasFirstOffence, IsNoSource}
 use Rattle.mk_top.specs.Faults.{fault_of_eval, fault_of_run, fault_of_count}
 use Rattle.mk_top.specs.Runs.{tape_of}
 
--- the most bytes that a command reads: of a source, of a bundle, of a table, and none
+-- the most bytes that a command reads: of a source, of a bundle, of a table, of a gadget, and none
 abbrev pub limit_of : Command → ℕ
 limit_of (Compile order) = MOST_SOURCE_BYTES
 limit_of Check = MOST_BYTES
@@ -44,6 +51,7 @@ limit_of Report = MOST_BYTES
 limit_of (Gen turns) = 0
 limit_of (Trial turns order) = 0
 limit_of Table = TABLE_BYTES
+limit_of Gadget = MOST_GADGET_BYTES
 
 -- the refusal of the checker that a fault tells
 abbrev pub refusal_of : CheckFault → CheckRefusal
@@ -109,6 +117,19 @@ TableDecides bytes None = length bytes ≡ TABLE_BYTES
 TableDecides bytes (Some (fault.Inputs (input.Length given wanted))) = (given ≡ length bytes) × (wanted ≡ TABLE_BYTES) × (length bytes < TABLE_BYTES)
 TableDecides bytes (Some _) = ⊥
 
+-- The answer that a gadget decides: it has no more sets of positions than are looked at, and no position counts too many
+-- terms; or it has too many sets; or not too many, and the first position that counts too many terms counts so many.
+abbrev pub JudgementDecides : GadgetForm → Option Fault → Type 0
+JudgementDecides g None = (set_count g ≤ MOST_SETS) × AreFew (counts g)
+JudgementDecides g (Some (fault.Sets sets)) = IsUnverified g (unverified.TooManySets sets)
+JudgementDecides g (Some (fault.Terms terms)) = IsUnverified g (unverified.TooManyTerms terms)
+JudgementDecides g (Some _) = ⊥
+
+-- the answer that the bytes of a gadget decide: that of the gadget whose text they are, or where they go wrong as a text
+abbrev pub GadgetDecides : List ℕ → Option Fault → Type 0
+GadgetDecides bytes (Some (fault.Gadget line)) = NamesFirst gadgets.IsGadgetText line bytes × (gadgets.IsGadgetText bytes → ⊥)
+GadgetDecides bytes answer = (g : GadgetForm) × gadgets.IsTextOf bytes g × JudgementDecides g answer
+
 -- the answer that the bytes within the limit decide
 abbrev pub TextDecides : Command → List ℕ → Option Fault → Type 0
 TextDecides (Compile order) bytes answer = SourceDecides (CompileDecides order) bytes answer
@@ -120,6 +141,7 @@ TextDecides Report bytes answer = BundleDecides PairDecides bytes answer
 TextDecides (Gen turns) bytes answer = answer ≡ None
 TextDecides (Trial turns order) bytes answer = TrialDecides turns order answer
 TextDecides Table bytes answer = TableDecides bytes answer
+TextDecides Gadget bytes answer = GadgetDecides bytes answer
 
 -- the answer that the bytes of the input decide under a command: no fault, or this one
 abbrev pub Decides : Command → List ℕ → Option Fault → Type 0

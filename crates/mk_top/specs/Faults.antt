@@ -13,6 +13,10 @@ use Rattle.mk_check.specs.declared.refusal.CheckRefusal.TheVariants as refused
 use Rattle.mk_bundle.specs.declared.TheConstants.{MOST_BYTES}
 use Rattle.mk_bundle.specs.declared.refusal.StreamRefusal.{StreamRefusal}
 use Rattle.mk_bundle.specs.declared.refusal.StreamRefusal.TheVariants as stream
+use Rattle.mk_lib.specs.declared.refusal.LibRefusal.{LibRefusal}
+use Rattle.mk_lib.specs.declared.refusal.LibRefusal.TheVariants as unread
+use Rattle.mk_pad.specs.declared.refusal.PadRefusal.{PadRefusal}
+use Rattle.mk_pad.specs.declared.refusal.PadRefusal.TheVariants as unverified
 use Rattle.mk_words.specs.declared.status.Status.{Status}
 use Rattle.mk_words.specs.declared.status.Status.TheVariants as status
 use Rattle.mk_top.specs.declared.fault.Fault.{Fault}
@@ -72,6 +76,17 @@ fault_of_check (refused.Output index) = fault.Check (check.Output index)
 fault_of_check (refused.Doubled value block) = fault.Check (check.Doubled value block)
 fault_of_check refused.Memory = fault.Memory
 
+-- the fault of a text that is no gadget's
+abbrev pub fault_of_text : LibRefusal → Fault
+fault_of_text (unread.Gadget line) = fault.Gadget line
+fault_of_text unread.Memory = fault.Memory
+
+-- the fault of a gadget that is not looked at
+abbrev pub fault_of_gadget : PadRefusal → Fault
+fault_of_gadget (unverified.TooManySets sets) = fault.Sets sets
+fault_of_gadget (unverified.TooManyTerms terms) = fault.Terms terms
+fault_of_gadget unverified.Memory = fault.Memory
+
 -- the status that a fault ends with
 abbrev pub status_of : Fault → Status
 status_of fault.Words = status.Words
@@ -79,6 +94,9 @@ status_of (fault.Source why) = status.Source
 status_of (fault.Inputs why) = status.Inputs
 status_of (fault.Check why) = status.Refused
 status_of (fault.Bundle line) = status.Bundle
+status_of (fault.Gadget line) = status.Bundle
+status_of (fault.Sets sets) = status.Tapes
+status_of (fault.Terms terms) = status.Tapes
 status_of fault.ReadFault = status.ReadFault
 status_of fault.WriteFault = status.WriteFault
 status_of fault.Memory = status.Memory
@@ -92,6 +110,9 @@ fault_line (fault.Source why) = source_line why
 fault_line (fault.Inputs why) = input_line why
 fault_line (fault.Check why) = check_line why
 fault_line (fault.Bundle line) = numbered_line (codes "41 bundle ") line
+fault_line (fault.Gadget line) = numbered_line (codes "44 gadget ") line
+fault_line (fault.Sets sets) = numbered_line (codes "61 sets ") sets
+fault_line (fault.Terms terms) = numbered_line (codes "62 terms ") terms
 fault_line fault.ReadFault = codes "6 read fault\n"
 fault_line fault.WriteFault = codes "7 write fault\n"
 fault_line fault.Memory = codes "8 memory\n"

@@ -19,12 +19,13 @@ use Rattle.mk_gen.specs.Generated.{IsGenerated, generated}
 use Rattle.mk_place.specs.Different.{AllDifferButRefreshes}
 use Rattle.mk_compile.specs.Compiled.{IsWithin, IsCertified}
 use Rattle.mk_compile.specs.Correct.{Correct}
-use Rattle.mk_words.specs.Words.{Command, Compile, Check, Eval, Run, Count, Report, Gen, Trial, Table, elements_word}
+use Rattle.mk_words.specs.Words.{Command, Compile, Check, Eval, Run, Count, Report, Gen, Trial, Table, Gadget, elements_word}
 use Rattle.mk_top.specs.Sources.{IsSourceOf}
 use Rattle.mk_top.specs.Bundles.{GivesText}
 use Rattle.mk_top.specs.Runs.{Runs}
 use Rattle.mk_top.specs.Counts.{Counts}
 use Rattle.mk_top.specs.Tables.{Tabulates}
+use Rattle.mk_top.specs.Gadgets.{Judges}
 use Rattle.mk_top.specs.Decided.{Decides}
 
 -- the output took this whole text, where it tells what it took
@@ -130,3 +131,4 @@ Makes Report given written = Reports given written
 Makes (Gen turns) given written = Generates turns written
 Makes (Trial turns order) given written = Tries turns order written
 Makes Table given written = Tabulates given written
+Makes Gadget given written = Judges given written

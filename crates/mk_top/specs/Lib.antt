@@ -1,5 +1,6 @@
 pub mod Sources
 pub mod Tables
+pub mod Gadgets
 pub mod Forms
 pub mod Seen
 pub mod Bundles

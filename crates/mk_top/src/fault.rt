@@ -6,8 +6,10 @@ use mk_base::Memory;
 use mk_bundle::{MOST_BYTES, StreamRefusal};
 use mk_check::CheckRefusal;
 use mk_eval::EvalRefusal;
+use mk_lib::LibRefusal;
+use mk_pad::PadRefusal;
 use mk_run::{CountRefusal, RunRefusal};
-use mk_words::{CheckFault, FaultLine, InputFault, SourceFault, Status, fixed, numbered};
+use mk_words::{CheckFault, FaultLine, InputFault, SourceFault, Status, counted, fixed, numbered};
 
 /// Why a run ends without its text.
 #[derive(Clone, Copy, Debug, PartialEq, Eq)]
@@ -22,6 +24,12 @@ pub enum Fault {
     Check(CheckFault),
     /// No bundle text goes on behind this line, counted from 1.
     Bundle { line: u32 },
+    /// No gadget text goes on behind this line, counted from 1.
+    Gadget { line: u32 },
+    /// There are so many sets of positions to look at, which are too many.
+    Sets { sets: u64 },
+    /// The first position of a gadget that counts too many terms counts so many.
+    Terms { terms: u64 },
     /// Reading failed.
     ReadFault,
     /// Writing failed.
@@ -165,6 +173,35 @@ impl From<CountRefusal> for Fault {
     }
 }
 
+impl From<LibRefusal> for Fault {
+    ghost use Rattle.std.specs.Prelude.{◌≡◌};
+    ghost use Rattle.mk_top.specs.Faults.{fault_of_text};
+
+    ghost from_gives = { λ refusal fault. fault ≡ fault_of_text refusal };
+
+    fn from(refusal: LibRefusal) -> Fault {
+        match refusal {
+            LibRefusal::Gadget { line } => Fault::Gadget { line },
+            LibRefusal::Memory => Fault::Memory,
+        }
+    }
+}
+
+impl From<PadRefusal> for Fault {
+    ghost use Rattle.std.specs.Prelude.{◌≡◌};
+    ghost use Rattle.mk_top.specs.Faults.{fault_of_gadget};
+
+    ghost from_gives = { λ refusal fault. fault ≡ fault_of_gadget refusal };
+
+    fn from(refusal: PadRefusal) -> Fault {
+        match refusal {
+            PadRefusal::TooManySets { sets } => Fault::Sets { sets },
+            PadRefusal::TooManyTerms { terms } => Fault::Terms { terms },
+            PadRefusal::Memory => Fault::Memory,
+        }
+    }
+}
+
 impl Fault {
     /// The status that it ends with.
     pub(crate) fn status(self) -> Status
@@ -176,6 +213,9 @@ impl Fault {
             Fault::Inputs(_) => Status::Inputs,
             Fault::Check(_) => Status::Refused,
             Fault::Bundle { line: _ } => Status::Bundle,
+            Fault::Gadget { line: _ } => Status::Bundle,
+            Fault::Sets { sets: _ } => Status::Tapes,
+            Fault::Terms { terms: _ } => Status::Tapes,
             Fault::ReadFault => Status::ReadFault,
             Fault::WriteFault => Status::WriteFault,
             Fault::Memory => Status::Memory,
@@ -194,6 +234,9 @@ impl Fault {
             Fault::Inputs(fault) => fault.line(),
             Fault::Check(fault) => fault.line(),
             Fault::Bundle { line } => numbered("41 bundle ", line),
+            Fault::Gadget { line } => numbered("44 gadget ", line),
+            Fault::Sets { sets } => counted("61 sets ", sets),
+            Fault::Terms { terms } => counted("62 terms ", terms),
             Fault::ReadFault => fixed("6 read fault\n"),
             Fault::WriteFault => fixed("7 write fault\n"),
             Fault::Memory => fixed("8 memory\n"),

@@ -7,6 +7,7 @@ mod answer;
 mod bundle;
 mod counts;
 mod fault;
+mod gadgets;
 mod outputs;
 mod reading;
 mod reports;

@@ -2,7 +2,7 @@ ghost use Rattle.std.specs.Prelude.{◌≡◌, ◌≢◌, ◌≤◌, ◌<◌, �
 ghost use Rattle.std.specs.Prelude.{OnOk, length};
 ghost use Rattle.mk_base.specs.Outside.{Rose};
 ghost use Rattle.mk_words.specs.declared.status.Status.{Status};
-ghost use Rattle.mk_words.specs.Words.{Command, Compile, Check, Eval, Run, Count, Report, Gen, Trial, Table, GivenTape};
+ghost use Rattle.mk_words.specs.Words.{Command, Compile, Check, Eval, Run, Count, Report, Gen, Trial, Table, Gadget, GivenTape};
 ghost use Rattle.mk_words.specs.Words.{Asks, IsForm, IsNoForm};
 ghost use Rattle.mk_words.specs.Forms.{AreElements, AreProbes, IsTapeForm};
 ghost use Rattle.mk_top.specs.declared.fault.Fault.{Fault};
@@ -17,12 +17,14 @@ ghost use Rattle.mk_top.specs.Because.{ReadWhole, WritesNothing, IsAnswerOf};
 ghost use Rattle.mk_top.specs.Runs.{Runs};
 ghost use Rattle.mk_top.specs.Counts.{Counts};
 ghost use Rattle.mk_top.specs.Tables.{Tabulates};
+ghost use Rattle.mk_top.specs.Gadgets.{Judges};
 ghost use Rattle.mk_top.specs.Running.{Finished, Stopped, ReadsOrLeaves, Made, NoText, IsMade, IsUnmade};
 
 use crate::answer::{Answer, bundle_answer, text_answer};
 use crate::bundle::checked_text;
 use crate::counts::counted_text;
 use crate::fault::Fault;
+use crate::gadgets::judged_text;
 use crate::reports::reported_text;
 use crate::runs::{WholeTape, ran_text};
 use crate::source::{compiled_bundle, evaluated_text};
@@ -168,6 +170,7 @@ fn answer_asked<S: Source>(alloc: Global, words: &Words, src: &mut S) -> Result<
         Some(Form::Gen { turns }) => text_answer(generated_text(alloc, turns)),
         Some(Form::Trial { turns, order }) => text_answer(tried_text(alloc, turns, order)),
         Some(Form::Table) => text_answer(tabulated_text(alloc, src)),
+        Some(Form::Gadget) => text_answer(judged_text(alloc, src)),
     }
 }
 
@@ -208,9 +211,11 @@ fn carry_out<S: Source, O: Sink>(
 /// tapes for A and for B, and then `equal` or `differs`; `report`, which reads a bundle, checks it, and writes what
 /// its values cost and which places of products they reach; `gen K`, K being a decimal number from 1 to 3,276, which
 /// reads nothing and writes a source with K turns; `trial K T`, which reads nothing and writes a line on what that
-/// source is compiled to at order T; and `table`, which reads 256 bytes, the elements of a table, and writes a source
-/// that gives them. The X of a seed is 64 hexadecimal digits, and that of a tape is its elements. A word of elements is `-` for none, or two hexadecimal digits of either case for each. Q is `-` for
-/// none, or decimal numbers below 2^32 with commas between.
+/// source is compiled to at order T; `table`, which reads 256 bytes, the elements of a table, and writes a source
+/// that gives them; and `gadget`, which reads a gadget text of at most 65,536 bytes and writes whether it is strong, and
+/// whether its value is right. The X of a seed is 64 hexadecimal digits, and that of a tape is its elements. A word of
+/// elements is `-` for none, or two hexadecimal digits of either case for each. Q is `-` for none, or decimal numbers
+/// below 2^32 with commas between.
 /// All memory is taken before the first byte is written.
 pub fn mask_main<S: Source, O: Sink, E: Sink>(
     alloc: Global,
@@ -271,6 +276,11 @@ pub fn mask_main<S: Source, O: Sink, E: Sink>(
     // What `table` wrote is a source that gives the elements of the table that was read.
     ensures tabulated { Asks words.now Table → result ≡ Status.Done
         → (written : List ℕ) × Tabulates (S.left src.old) written
+        × TakesWhole (O.taken out.old) written (O.taken out.new) }
+
+    // What `gadget` wrote is what is known of the gadget that was read: a verdict, and whether its value is right.
+    ensures judged { Asks words.now Gadget → result ≡ Status.Done
+        → (written : List ℕ) × Judges (S.left src.old) written
         × TakesWhole (O.taken out.old) written (O.taken out.new) }
 
     // Where the output failed, it took the command's text as far as a prefix.

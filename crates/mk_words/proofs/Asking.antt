@@ -4,7 +4,7 @@ use Rattle.std.specs.Prelude.{codes}
 use Rattle.hex.specs.Hex.{decode_of}
 use Rattle.hex.specs.declared.error.FromHexError.TheVariants.{OddLength}
 use Rattle.hex.proofs.HexLemmas.{decode_of-same}
-use Rattle.mk_words.specs.Words.{Command, Compile, Check, Eval, Run, Count, Report, Gen, Trial, Table, GivenTape, Seed, Tape, IsOrder, IsTurns, SaysElements, SaysTape, SaysProbes, Asks}
+use Rattle.mk_words.specs.Words.{Command, Compile, Check, Eval, Run, Count, Report, Gen, Trial, Table, Gadget, GivenTape, Seed, Tape, IsOrder, IsTurns, SaysElements, SaysTape, SaysProbes, Asks}
 use Rattle.mk_words.proofs.Commands.{seed-not-tape}
 use Rattle.mk_words.proofs.Decimals.{says-probes-one, turns-one}
 
@@ -41,6 +41,7 @@ mark Report = 1114
 mark (Gen turns) = 2103
 mark (Trial turns order) = 3116
 mark Table = 1116
+mark Gadget = 1103
 
 -- words that ask for a command have its mark
 asks-marked : (words : List (List ℕ)) (command : Command) → Asks words command → mark_of words ≡ mark command
@@ -53,6 +54,7 @@ asks-marked words Report asks = ap mark_of asks
 asks-marked words (Gen turns) asks = ap mark_of asks.1
 asks-marked words (Trial turns order) asks = ap mark_of asks.2
 asks-marked words Table asks = ap mark_of asks
+asks-marked words Gadget asks = ap mark_of asks
 
 -- a word says one order
 order-one : (word : List ℕ) (m n : ℕ) → IsOrder word m → IsOrder word n → m ≡ n
@@ -99,4 +101,5 @@ asks-one words (Trial m j) (Trial n k) first second =
     ap (λ (t : ℕ). Trial t j) (turns-one second.0 m n (subst (λ (w : List ℕ). IsTurns w m) one first.3) second.3)
     ∙ ap (Trial n) (order-one second.1 j k (subst (λ (w : List ℕ). IsOrder w j) two first.4) second.4)
 asks-one words Table Table first second = refl
+asks-one words Gadget Gadget first second = refl
 asks-one words a b first second = absurd (omega (arith, sym (asks-marked words a first) ∙ asks-marked words b second))

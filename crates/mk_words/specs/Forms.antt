@@ -2,7 +2,7 @@
 use Rattle.std.specs.Prelude.{◌≡◌, ◌<◌, ◌^◌, ℕ, List, [], ◌∷◌, length, codes}
 use Rattle.mk_words.specs.declared.command.Form.{Form}
 use Rattle.mk_words.specs.declared.command.Form.TheVariants as form
-use Rattle.mk_words.specs.Words.{Compile, Check, Report, Gen, Trial, Table, SaysElements, SaysSeed, SaysProbes, Asks}
+use Rattle.mk_words.specs.Words.{Compile, Check, Report, Gen, Trial, Table, Gadget, SaysElements, SaysSeed, SaysProbes, Asks}
 use Rattle.mk_words.specs.declared.command.TapeForm.{TapeForm}
 use Rattle.mk_words.specs.declared.command.TapeForm.TheVariants as tape_
 
@@ -41,3 +41,4 @@ AsksSo words form.Report = Asks words Report
 AsksSo words (form.Gen turns) = Asks words (Gen turns)
 AsksSo words (form.Trial turns order) = Asks words (Trial turns order)
 AsksSo words form.Table = Asks words Table
+AsksSo words form.Gadget = Asks words Gadget

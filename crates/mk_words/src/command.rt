@@ -46,6 +46,8 @@ pub enum Form<'a> {
     },
     /// To write a source that gives the elements of a table.
     Table,
+    /// To judge a gadget.
+    Gadget,
 }
 
 /// Where a tape comes from, with its word of elements as it stands.
@@ -92,6 +94,9 @@ fn one_word<'a>(name: &[u8]) -> Option<Form<'a>>
     }
     if name == b"table".as_slice() {
         return Some(Form::Table);
+    }
+    if name == b"gadget".as_slice() {
+        return Some(Form::Gadget);
     }
     None
 }

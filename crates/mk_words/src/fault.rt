@@ -157,10 +157,18 @@ pub fn numbered(text: &str, number: u32) -> FaultLine
     requires { length text.now ≤ 40 }
     ensures { result.bytes ≡ text.now ++ decimal number ++ 10 ∷ [] }
 {
+    counted(text, u64::from(number))
+}
+
+/// A line that ends in a count.
+pub fn counted(text: &str, count: u64) -> FaultLine
+    requires { length text.now ≤ 40 }
+    ensures { result.bytes ≡ text.now ++ decimal count ++ 10 ∷ [] }
+{
     let mut digits = Buffer::new();
     let mut line = FaultLine::new();
     line.push_str(text);
-    line.push_str(digits.format(number));
+    line.push_str(digits.format(count));
     line.push_str("\n");
     line
 }

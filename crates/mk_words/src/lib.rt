@@ -14,6 +14,6 @@ mod status;
 
 pub use command::{Form, TapeForm, form_asked};
 pub use elements::{elements_of, push_elements};
-pub use fault::{CheckFault, FaultLine, InputFault, SourceFault, fixed, numbered};
+pub use fault::{CheckFault, FaultLine, InputFault, SourceFault, counted, fixed, numbered};
 pub use numbers::probes_of;
 pub use status::{Status, code_of};

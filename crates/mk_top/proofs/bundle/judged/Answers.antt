@@ -1,5 +1,5 @@
 -- What the checker says of the instructions and outs that it was given.
-use Rattle.std.proofs.Common.{◌≡◌, ℕ, ◌+◌, ◌≤◌, List, [], ◌∷◌, ◌++◌, Option, Result, IfErr, OnOk, refl, sym, subst, ap, ◌∙◌, arith}
+use Rattle.std.proofs.Common.{ℕ, ◌+◌, List, [], ◌∷◌, ◌++◌, Option, Result, IfErr, OnOk, refl, sym, subst, arith}
 use Rattle.std.proofs.lemmas.Result.{err_from_is_err_and}
 use Rattle.mk_rules.specs.Claimed.{Claimed}
 use Rattle.mk_rules.specs.Accepts.{IsAccepted}
@@ -9,7 +9,7 @@ use Rattle.mk_bundle.specs.declared.event.Event.TheVariants as event
 use Rattle.mk_bundle.specs.Events.{AreFirst}
 use Rattle.mk_words.specs.Words.{Check}
 use Rattle.mk_top.specs.declared.fault.Fault.{Fault}
-use Rattle.mk_top.specs.Reading.{Reading, GivesBundle, IsBegun}
+use Rattle.mk_top.specs.Reading.{Reading, GivesBundle}
 use Rattle.mk_top.specs.Running.{NoText, Checked}
 use Rattle.mk_top.proofs.Events.{is-end}
 use Rattle.mk_top.proofs.Judging.{next-lower, begun-next, instrs-few, outs-room, judged-code}

@@ -1,5 +1,5 @@
 -- What the blocks and claims give, up to the line `code`.
-use Rattle.std.proofs.Common.{◌≡◌, ℕ, ◌≤◌, List, [], ◌∷◌, ◌++◌, Option, Result, IfErr, refl, sym, subst, ap, ◌∙◌, arith}
+use Rattle.std.proofs.Common.{◌≡◌, [], ◌∷◌, ◌++◌, Result, IfErr, refl, sym, subst, ap, arith}
 use Rattle.std.proofs.lemmas.Result.{err_from_is_err_and}
 use Rattle.mk_rules.specs.Claimed.{Claimed}
 use Rattle.mk_bundle.specs.declared.event.Event.{Event}

@@ -1,5 +1,5 @@
 -- The head, the certificate and the checker are those of the events that were read.
-use Rattle.std.proofs.Common.{◌≡◌, ℕ, ◌≤◌, List, [], ◌∷◌, ◌++◌, Option, Result, IfErr, refl, sym, subst, ap, ◌∙◌, arith}
+use Rattle.std.proofs.Common.{[], ◌∷◌, ◌++◌, Result, IfErr, refl, sym, subst, ap, arith}
 use Rattle.std.proofs.lemmas.Result.{err_from_is_err_and}
 use Rattle.mk_bundle.specs.declared.event.Event.TheVariants as event
 use Rattle.mk_words.specs.Words.{Check}

@@ -1,5 +1,5 @@
 -- Why the program isn't compiled is why nothing is made of the source.
-use Rattle.std.proofs.Common.{List, ℕ, sym, subst, Result, IfErr, refl}
+use Rattle.std.proofs.Common.{sym, subst, Result, IfErr, refl}
 use Rattle.std.proofs.lemmas.Result.{err_from_is_err_and}
 use Rattle.mk_rules.specs.declared.cert.Bundle.{Bundle}
 use Rattle.mk_bundle.specs.Text.{text}

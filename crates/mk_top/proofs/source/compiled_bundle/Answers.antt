@@ -1,6 +1,5 @@
 -- The source that was read is the one that was given.
-use Rattle.std.proofs.Common.{◌≡◌, ℕ, List, Some, Result, Ok, Err, IfOk, IfErr, subst}
-use Rattle.mk_rules.specs.declared.cert.Bundle.{Bundle}
+use Rattle.std.proofs.Common.{ℕ, List, Some, IfOk, IfErr, subst}
 use Rattle.mk_bundle.specs.Text.{text}
 use Rattle.mk_words.specs.Words.{Compile}
 use Rattle.mk_top.specs.Headline.{Makes}

@@ -1,6 +1,6 @@
 -- What is made is of the command that the words ask for.
 use Rattle.std.proofs.Common.{refl, subst}
-use Rattle.mk_words.specs.Words.{Compile, Check, Report, Gen, Trial, Table}
+use Rattle.mk_words.specs.Words.{Compile, Check, Report, Gen, Trial, Table, Gadget}
 use Rattle.mk_words.specs.Forms.{AsksSo}
 use Rattle.mk_words.specs.declared.command.Form.TheVariants as form
 use Rattle.mk_top.specs.declared.answer.Answer.TheVariants as answer
@@ -159,3 +159,20 @@ pub returns-in-Some-Table-clause-leaves : goal.returns-in-Some-Table-clause-leav
 returns-in-Some-Table-clause-leaves g c =
     asked-leaves c.args.words.now form.Table _
     (subst (AsksSo c.args.words.now) c.in-Some-Table.field-0-is (c.in-Some-Table.ensures).asked) tt
+
+pub returns-in-Some-Gadget-clause-made : goal.returns-in-Some-Gadget-clause-made
+returns-in-Some-Gadget-clause-made g c =
+    text-answered c.args.words.now _ c.judged_text.result c.text_answer-in-Some-Gadget.result c.text_answer-in-Some-Gadget.ensures
+    (made-asked c.args.words.now Gadget (seen g.S.Source.left g.S.Source.faults c.args.src.now c.judged_text.new.src) c.judged_text.result
+    (subst (AsksSo c.args.words.now) c.in-Some-Gadget.field-0-is (c.in-Some-Gadget.ensures).asked) c.judged_text.ensures.made)
+
+pub returns-in-Some-Gadget-clause-unmade : goal.returns-in-Some-Gadget-clause-unmade
+returns-in-Some-Gadget-clause-unmade g c =
+    fault-answered answer.Text _ c.judged_text.result c.text_answer-in-Some-Gadget.result c.text_answer-in-Some-Gadget.ensures
+    (unmade-asked c.args.words.now Gadget (seen g.S.Source.left g.S.Source.faults c.args.src.now c.judged_text.new.src) c.judged_text.result
+    (subst (AsksSo c.args.words.now) c.in-Some-Gadget.field-0-is (c.in-Some-Gadget.ensures).asked) c.judged_text.ensures.unmade)
+
+pub returns-in-Some-Gadget-clause-leaves : goal.returns-in-Some-Gadget-clause-leaves
+returns-in-Some-Gadget-clause-leaves g c =
+    asked-leaves c.args.words.now form.Gadget _
+    (subst (AsksSo c.args.words.now) c.in-Some-Gadget.field-0-is (c.in-Some-Gadget.ensures).asked) tt

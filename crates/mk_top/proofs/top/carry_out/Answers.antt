@@ -1,8 +1,7 @@
 -- The text was put, or there is none.
-use Rattle.std.proofs.Common.{ℕ, List, Result, OnOk, IfErr, sym, subst}
+use Rattle.std.proofs.Common.{Result, IfErr, sym, subst}
 use Rattle.std.proofs.lemmas.Result.{err_from_is_err_and}
 use Rattle.mk_top.specs.declared.fault.Fault.{Fault}
-use Rattle.mk_top.specs.Headline.{TakesWhole, TakesSome}
 use Rattle.mk_top.specs.Seen.{seen}
 use Rattle.mk_top.specs.Running.{Stopped}
 use Rattle.mk_top.proofs.Ends.{put-finished, put-stopped, unmade-stopped}

@@ -1,12 +1,12 @@
 -- Each way that a run ends has one answer.
 use Rattle.std.proofs.Common.{IfSome, sym, ◌∙◌, subst}
 use Rattle.mk_bundle.proofs.Naming.{differ}
-use Rattle.mk_words.specs.Words.{Compile, Eval, Run, Count, Report, Gen, Trial, Table}
+use Rattle.mk_words.specs.Words.{Compile, Eval, Run, Count, Report, Gen, Trial, Table, Gadget}
 use Rattle.mk_words.specs.declared.status.Status.{Status}
 use Rattle.mk_top.specs.Decided.{Decides}
 use Rattle.mk_top.specs.Seen.{seen}
-use Rattle.mk_top.specs.Because.{IsOrMemory, answer_status, input_of, IsAnswerOf}
-use Rattle.mk_top.proofs.Ends.{finished-at, stopped-at, stopped-cut, stopped-because, stopped-decided, stopped-answer, finished-decided, left-unread}
+use Rattle.mk_top.specs.Because.{IsOrMemory, answer_status, input_of, IsAnswerOf, ReadsToEnd}
+use Rattle.mk_top.proofs.Ends.{finished-at, stopped-at, stopped-cut, stopped-because, stopped-read, stopped-decided, stopped-answer, finished-decided, left-unread}
 use Rattle.mk_top.proofs.top.mask_main.Goals as goal
 
 pub returns-in-Ok-clause-compiled : goal.returns-in-Ok-clause-compiled
@@ -54,6 +54,11 @@ returns-in-Ok-clause-tabulated g c asks done =
     let at = finished-at _ Table _ _ c.in-Ok.ensures.finished asks in
     (at.written, at.made.makes, at.whole)
 
+pub returns-in-Ok-clause-judged : goal.returns-in-Ok-clause-judged
+returns-in-Ok-clause-judged g c asks done =
+    let at = finished-at _ Gadget _ _ c.in-Ok.ensures.finished asks in
+    (at.written, at.made.makes, at.whole)
+
 pub returns-in-Ok-clause-unread : goal.returns-in-Ok-clause-unread
 returns-in-Ok-clause-unread g c command asks unread = left-unread _ command _ c.carry_out.ensures.leaves asks unread
 
@@ -84,3 +89,8 @@ pub returns-in-Err-clause-answers : goal.returns-in-Err-clause-answers
 returns-in-Err-clause-answers g c command asks =
     let at = stopped-at _ _ _ command c.in-Err.fault asks c.in-Err.ensures.stopped in
     subst (IsAnswerOf command) (sym c.status.ensures) (stopped-answer command _ _ c.in-Err.fault at)
+
+pub returns-in-Err-clause-read : goal.returns-in-Err-clause-read
+returns-in-Err-clause-read g c command asks ends =
+    let at = stopped-at _ _ _ command c.in-Err.fault asks c.in-Err.ensures.stopped in
+    stopped-read command _ _ c.in-Err.fault at (subst ReadsToEnd c.status.ensures ends)
