@@ -10,6 +10,10 @@ use Rattle.mk_lines.proofs.Variants.{instr_words, instr_found, instr_at_found, i
 use Rattle.mk_bundle.specs.declared.draft.Stage.TheVariants.{Lower, Ended}
 use Rattle.mk_bundle.specs.declared.event.Event.TheVariants as event
 use Rattle.mk_bundle.specs.Counting.{Seen, instr_counts, instr_counted, lower_counted, counted_at, line_counted}
+use Rattle.mk_bundle.specs.declared.draft.Stage.{Stage}
+use Rattle.mk_bundle.specs.declared.notes.Form.{Form}
+use Rattle.mk_bundle.specs.declared.notes.Form.TheVariants as form
+use Rattle.mk_bundle.specs.Noting.{Noted, Noting, keep, position_noted, noted_by, line_noted}
 use Rattle.mk_bundle.specs.Taking.{IsInstrLine}
 use Rattle.mk_bundle.specs.Reads.{Reader, IsGoing}
 use Rattle.mk_bundle.specs.Stepping.{Tells}
@@ -88,12 +92,23 @@ instr_line_counted seen l i lower reads counts =
     let counted : instr_counted seen l ≡ Some (record seen { instrs = seen.instrs + 1 }, Some (event.Instr i)) = rw (reads, counts) refl in
     at ∙ words ∙ counted
 
--- a reader that read the line of an instruction answers it
-pub instr_told : (old new : Reader) (i : Instr) (n : ℕ) → (h : IsInstrLine i n old.pending) → old.waiting ≡ None → old.seen.stage ≡ Lower → instr_counts old.seen i ≡ true
-    → new ≡ record old { seen = record old.seen { instrs = old.seen.instrs + 1 }; lines = old.lines + 1; pending = h.behind } → Tells (event.Instr i) old new
-instr_told old new i n h free lower counts is =
-    let left : Seen = record old.seen { instrs = old.seen.instrs + 1 } in
+-- the same of what is noted
+instr_line_noted : (n : Noted) (l : List ℕ) (i : Instr) → n.form ≡ form.Positions → n.seen.stage ≡ Lower → instr_of l ≡ Some i → instr_counts n.seen i ≡ true
+    → line_noted n l ≡ Some (record n { seen = record n.seen { instrs = n.seen.instrs + 1 } }, Some (event.Instr i))
+unfolding position_noted
+instr_line_noted n l i over lower reads counts =
+    let left : Seen = record n.seen { instrs = n.seen.instrs + 1 } in
+    let by_form : line_noted n l ≡ position_noted n.seen.stage n.seen l = ap (λ (f : Form). noted_by f n.seen l) over in
+    let by_stage : position_noted n.seen.stage n.seen l ≡ keep form.Positions (counted_at Lower n.seen l) = ap (λ (s : Stage). position_noted s n.seen l) lower in
+    let counted : counted_at Lower n.seen l ≡ Some (left, Some (event.Instr i)) = ap (λ (s : Stage). counted_at s n.seen l) (sym lower) ∙ instr_line_counted n.seen l i lower reads counts in
+    by_form ∙ by_stage ∙ ap (keep form.Positions) counted ∙ ap {B = Noting} (λ (f : Form). Some (record { seen = left; form = f }, Some (event.Instr i))) (sym over)
+
+-- a reader that read the line of an instruction over positions answers it
+pub instr_told : (old new : Reader) (i : Instr) (n : ℕ) → (h : IsInstrLine i n old.pending) → old.waiting ≡ None → old.noted.form ≡ form.Positions → old.noted.seen.stage ≡ Lower → instr_counts old.noted.seen i ≡ true
+    → new ≡ record old { noted = record old.noted { seen = record old.noted.seen { instrs = old.noted.seen.instrs + 1 } }; lines = old.lines + 1; pending = h.behind } → Tells (event.Instr i) old new
+instr_told old new i n h free over lower counts is =
+    let left : Noted = record old.noted { seen = record old.noted.seen { instrs = old.noted.seen.instrs + 1 } } in
     let some : h.line ≡ [] → ⊥ = λ none. absurd (omega (arith, h.some, h.len, ap length none)) in
     let going : IsGoing old = λ ended. (let never : Lower ≡ Ended = sym lower ∙ ended in absurd cc) in
-    let other : left.stage ≡ Ended → ⊥ = λ ended. (let never : Lower ≡ Ended = sym lower ∙ ended in absurd cc) in
-    stepped_told old new new left (event.Instr i) (event.Instr i) true h.line h.behind free going h.clean h.here some (instr_line_counted old.seen h.line i lower h.reads counts) other is (rw lower refl) (refl, refl)
+    let other : left.seen.stage ≡ Ended → ⊥ = λ ended. (let never : Lower ≡ Ended = sym lower ∙ ended in absurd cc) in
+    stepped_told old new new left (event.Instr i) (event.Instr i) true h.line h.behind free going h.clean h.here some (instr_line_noted old.noted h.line i over lower h.reads counts) other is (rw lower refl) (refl, refl)

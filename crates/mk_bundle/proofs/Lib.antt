@@ -9,9 +9,15 @@ pub mod Following
 pub mod Short
 pub mod Stepping
 pub mod Marking
+pub mod Owning
 pub mod Ending
 pub mod Gathering
 pub mod Instrs
 pub mod Leading
 pub mod RegisterComplete
+pub mod RegisterSound
 pub mod Versions
+pub mod Reaching
+pub mod Refusing
+pub mod RegisterAgreeing
+pub mod PartialAgreeing

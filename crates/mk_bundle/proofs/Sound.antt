@@ -94,7 +94,7 @@ AllByRecursion-push P [] x all here = (here, tt)
 AllByRecursion-push P (y ∷ xs) x all here = (all.0, AllByRecursion-push P xs x all.1 here)
 
 -- the spelling of a list with one thing more is that of the list and then that of the thing
-flat_map-push : {A : Type 0} (f : A → List ℕ) (xs : List A) (x : A) → flat_map f (xs ++ x ∷ []) ≡ flat_map f xs ++ f x
+pub flat_map-push : {A : Type 0} (f : A → List ℕ) (xs : List A) (x : A) → flat_map f (xs ++ x ∷ []) ≡ flat_map f xs ++ f x
 flat_map-push f xs x = flat_map-append f xs (x ∷ []) ∙ ap (λ (r : List ℕ). flat_map f xs ++ r) (append-nil (f x))
 
 -- a list with one thing more is longer by one
@@ -118,12 +118,12 @@ empty_listing code order secrets publics maps bytes none = record {
 }
 
 -- where there is no map, there are maps in bytes only
-no_maps : (field : FieldId) (maps : List AddMap) → maps ≡ [] → HasMapsOnlyInBytes field maps
+pub no_maps : (field : FieldId) (maps : List AddMap) → maps ≡ [] → HasMapsOnlyInBytes field maps
 no_maps Gf2 maps none = none
 no_maps Gf256 maps none = tt
 
 -- in a field that has maps, there may be any
-some_maps : (field : FieldId) (maps : List AddMap) → has_maps field ≡ true → HasMapsOnlyInBytes field maps
+pub some_maps : (field : FieldId) (maps : List AddMap) → has_maps field ≡ true → HasMapsOnlyInBytes field maps
 some_maps Gf2 maps e = absurd cc
 some_maps Gf256 maps e = tt
 
@@ -231,11 +231,11 @@ publics_goes code cert l next good e =
 -- ---- maps, blocks and claims
 
 -- a list shorter than a limit is within it with one thing more
-few_of : {A : Type 0} (xs : List A) (x : A) (most : ℕ) → nat_lt (length xs) most ≡ true → length (xs ++ x ∷ []) ≤ most
+pub few_of : {A : Type 0} (xs : List A) (x : A) (most : ℕ) → nat_lt (length xs) most ≡ true → length (xs ++ x ∷ []) ≤ most
 few_of xs x most e = omega (arith, length-push xs x, ltb-true (length xs) most e)
 
 -- a list shorter than 1 is empty
-none_of : {A : Type 0} (xs : List A) → nat_lt (length xs) 1 ≡ true → xs ≡ []
+pub none_of : {A : Type 0} (xs : List A) → nat_lt (length xs) 1 ≡ true → xs ≡ []
 none_of xs e = nil_from_length xs (omega (arith, ltb-true (length xs) 1 e))
 
 -- a map's line, if it is read, goes on with the text so far
@@ -336,7 +336,7 @@ claim_goes code cert l words next good here e =
     last_claim head claims value spelled = simp (flat_map-push claim_line claims value, spelled, append_assoc)
 
 -- nothing of the code stands there yet
-no_outs : (shares : ℕ) (outs : List ℕ) → outs ≡ [] → out_lines shares (length outs / shares) outs ≡ []
+pub no_outs : (shares : ℕ) (outs : List ℕ) → outs ≡ [] → out_lines shares (length outs / shares) outs ≡ []
 no_outs shares outs none = out_lines-none shares (length outs / shares) outs (ap (λ (xs : List ℕ). length xs / shares) none ∙ zero-div shares)
 
 -- the same for the line that the code follows

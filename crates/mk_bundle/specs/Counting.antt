@@ -76,7 +76,7 @@ abbrev pub Counted : Type 0
 Counted = Option (Seen × Option Event)
 
 -- what a function that reads a line returned and left is what reading gives, unless memory ran out
-abbrev pub Steps : Result (Option Event) LineRefusal → Seen → Counted → Type 0
+abbrev pub Steps : {A : Type 0} → Result (Option Event) LineRefusal → A → Option (A × Option Event) → Type 0
 Steps (Ok told) new read = read ≡ Some (new, told)
 Steps (Err refusals.Form) new read = read ≡ None
 Steps (Err refusals.Memory) new read = Unit {0}
@@ -139,12 +139,15 @@ claim_counted seen words = do
 unfoldable pub code_counted : Seen → List ℕ → Counted
 code_counted seen line = if bytes_eq line (codes "code") then Some (record seen { stage = Lower }, Some event.Code) else None
 
--- a line between the head and the code: a map, a block, a claim or the code's beginning
-unfoldable pub upper_counted : Seen → List ℕ → Counted
-upper_counted seen line =
-    behind (after (codes "map ") line) (map_counted seen) (
+-- a line of the certificate: a block, a claim or the code's beginning
+unfoldable pub cert_counted : Seen → List ℕ → Counted
+cert_counted seen line =
     behind (after (codes "block ") line) (block_counted seen) (
-    behind (after (codes "claim ") line) (claim_counted seen) (code_counted seen line)))
+    behind (after (codes "claim ") line) (claim_counted seen) (code_counted seen line))
+
+-- a line between the head and the code: a map, or one of the certificate
+unfoldable pub upper_counted : Seen → List ℕ → Counted
+upper_counted seen line = behind (after (codes "map ") line) (map_counted seen) (cert_counted seen line)
 
 -- how many entries the trace has so far
 abbrev pub entries : Seen → ℕ

@@ -5,7 +5,9 @@ pub mod Passing
 pub mod Events
 pub mod Reading
 pub mod RegisterReading
+pub mod Versions
 pub mod Counting
+pub mod Noting
 pub mod Taking
 pub mod Reads
 pub mod Stepping

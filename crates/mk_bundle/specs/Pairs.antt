@@ -1,11 +1,13 @@
 -- Which pairs have a text, and which texts are those of a pair.
-use Rattle.std.specs.Prelude.{◌≡◌, ℕ, ◌≤◌, ◌<◌, ◌^◌, List, [], ◌++◌, length}
+use Rattle.std.specs.Prelude.{◌≡◌, ℕ, ◌≤◌, ◌<◌, ◌^◌, ◌⊎◌, List, [], ◌++◌, length, Some}
 use Rattle.std.specs.List.{AllByRecursion}
 use Rattle.mk_field.specs.Maps.{MapFits}
 use Rattle.mk_ssa.specs.Widths.{OperandFits, OpFits}
 use Rattle.mk_code.specs.Listing.{Listing}
 use Rattle.mk_regs.specs.declared.instr.RegInstr.{RegInstr}
+use Rattle.mk_regs.specs.declared.refusal.RegRefusal.{RegRefusal}
 use Rattle.mk_regs.specs.Form.{RegListing, IsRegListing, target, operation}
+use Rattle.mk_regs.specs.Renaming.{refusal_of, IsRenamed}
 use Rattle.mk_lines.specs.CodeLines.{IntoFits}
 use Rattle.mk_rules.specs.declared.TheConstants.{MOST_BLOCKS, MOST_CLAIMS}
 use Rattle.mk_rules.specs.Claimed.{Claimed}
@@ -36,9 +38,20 @@ pub record IsRegisterPair (r : RegListing) (cert : Claimed) : Type 0 where
 abbrev pub IsRegisterTextOf : List ℕ → RegListing → Claimed → Type 0
 IsRegisterTextOf bytes r cert = IsRegisterPair r cert × (bytes ≡ register_text r cert)
 
--- these bytes are the text of a code and a certificate
+-- these bytes are a text of this code and certificate: that of version 1, or that of version 2 of register code that
+-- is renamed to the code
+abbrev pub IsBundleOf : List ℕ → Listing → Claimed → Type 0
+IsBundleOf bytes code cert = IsTextOf bytes code cert ⊎ ((r : RegListing) × IsRegisterTextOf bytes r cert × IsRenamed r code)
+
+-- these bytes are the text of a certificate and a code, over positions or over registers
 abbrev pub IsBundleText : List ℕ → Type 0
-IsBundleText bytes = (code : Listing) × (cert : Claimed) × IsTextOf bytes code cert
+IsBundleText bytes =
+    ((code : Listing) × (cert : Claimed) × IsTextOf bytes code cert)
+    ⊎ ((r : RegListing) × (cert : Claimed) × IsRegisterTextOf bytes r cert)
+
+-- these bytes are the text of a certificate and register code that can't be renamed, for this reason
+abbrev pub IsRefusedText : RegRefusal → List ℕ → Type 0
+IsRefusedText refusal bytes = (r : RegListing) × (cert : Claimed) × IsRegisterTextOf bytes r cert × (refusal_of r ≡ Some refusal)
 
 -- different pairs have different texts, and no bundle text is a proper front of another
 abbrev pub TextsDiffer : Type 0
@@ -57,3 +70,13 @@ abbrev pub VersionsDiffer : Type 0
 VersionsDiffer = (bytes rest : List ℕ) (code : Listing) (r : RegListing) (cert registers_cert : Claimed)
     → (IsTextOf (bytes ++ rest) code cert → IsRegisterTextOf bytes r registers_cert → ⊥)
     × (IsRegisterTextOf (bytes ++ rest) r registers_cert → IsTextOf bytes code cert → ⊥)
+
+-- the text of a bundle is read in one way: it is that of one code and certificate, or of register code that can't be
+-- renamed for one reason, and no text of a bundle is a proper front of another
+pub record TextsReadOnce : Type 0 where
+  pub pairs : (bytes rest : List ℕ) (code other_code : Listing) (cert other_cert : Claimed)
+      → IsBundleOf (bytes ++ rest) code cert → IsBundleOf bytes other_code other_cert
+      → (code ≡ other_code) × (cert ≡ other_cert) × (rest ≡ [])
+  pub refused : (bytes : List ℕ) (refusal : RegRefusal) (code : Listing) (cert : Claimed)
+      → IsRefusedText refusal bytes → IsBundleOf bytes code cert → ⊥
+  pub reasons : (bytes : List ℕ) (refusal other : RegRefusal) → IsRefusedText refusal bytes → IsRefusedText other bytes → refusal ≡ other

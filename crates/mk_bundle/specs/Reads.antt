@@ -1,26 +1,28 @@
 -- What a reader answered of the bytes that it took.
-use Rattle.std.specs.Prelude.{◌≡◌, ℕ, ◌+◌, ◌-◌, ◌*◌, ◌≤◌, ◌<◌, List, [], ◌∷◌, ◌++◌, length, flat_map, Option, Some, None, IfSome, Result, Ok, Err, if◌then◌else◌}
+use Rattle.std.specs.Prelude.{◌≡◌, ℕ, ◌+◌, ◌-◌, ◌*◌, ◌≤◌, ◌<◌, List, [], ◌∷◌, ◌++◌, length, flat_map, Option, Some, None, IfSome, Result, Ok, Err}
 use Rattle.mk_bundle.specs.declared.TheConstants.{MOST_HELD}
 use Rattle.mk_code.specs.Listing.{Listing}
 use Rattle.mk_rules.specs.Claimed.{Claimed}
 use Rattle.mk_rules.specs.declared.cert.Bundle.{Bundle}
 use Rattle.mk_lines.specs.Words.{line}
 use Rattle.mk_lines.specs.Lines.{AreLines, NamesFirst}
-use Rattle.mk_bundle.specs.Pairs.{IsTextOf, IsBundleText}
+use Rattle.mk_regs.specs.declared.refusal.RegRefusal.{RegRefusal}
+use Rattle.mk_regs.specs.declared.refusal.RegRefusal.TheVariants as unnamed
+use Rattle.mk_bundle.specs.Pairs.{IsBundleOf, IsBundleText, IsRefusedText}
 use Rattle.mk_bundle.specs.declared.draft.Stage.TheVariants.{Ended}
 use Rattle.mk_bundle.specs.declared.event.Event.{Event}
 use Rattle.mk_bundle.specs.declared.event.Event.TheVariants as event
 use Rattle.mk_bundle.specs.declared.refusal.StreamRefusal.{StreamRefusal}
 use Rattle.mk_bundle.specs.declared.refusal.StreamRefusal.TheVariants as refusals
-use Rattle.mk_bundle.specs.Events.{has_begun, events_at, events_of, event_text, AreFirst}
-use Rattle.mk_bundle.specs.Reading.{State, start, lines_read}
-use Rattle.mk_bundle.specs.Counting.{Seen, summary}
+use Rattle.mk_bundle.specs.Events.{events_of, StandFor, AreFirst}
+use Rattle.mk_bundle.specs.Versions.{Partial, begin, partials_read, events_so_far, untold}
+use Rattle.mk_bundle.specs.Noting.{Noted, noted, refusal_in}
 use Rattle.mk_bundle.specs.Taking.{Comes}
 
 -- a reader: what it keeps of the lines that it read, the event that it answers next, how many lines it read, the
 -- bytes that it holds behind them, how many bytes came, and how many may come
 pub record Reader : Type 0 where
-  pub seen : Seen
+  pub noted : Noted
   pub waiting : Option Event
   pub lines : ℕ
   pub pending : List ℕ
@@ -29,7 +31,7 @@ pub record Reader : Type 0 where
 
 -- the last line was not read
 abbrev pub IsGoing : Reader → Type 0
-IsGoing reader = reader.seen.stage ≡ Ended → ⊥
+IsGoing reader = reader.noted.seen.stage ≡ Ended → ⊥
 
 -- an event that may be there, as a list
 abbrev pub listed : Option Event → List Event
@@ -40,37 +42,50 @@ listed None = []
 abbrev pub to_come : Reader → ℕ
 to_come reader = 2 * (reader.limit - reader.count) + length reader.pending + length (listed reader.waiting)
 
+-- an event whose line is the same in both versions: a block, a claim or the line `code`
+abbrev pub IsOfBoth : Event → Type 0
+IsOfBoth (event.Block op) = Unit {0}
+IsOfBoth (event.Claim value) = Unit {0}
+IsOfBoth event.Code = Unit {0}
+IsOfBoth (event.Head head) = ⊥
+IsOfBoth (event.Instr instr) = ⊥
+IsOfBoth (event.Out positions) = ⊥
+IsOfBoth event.End = ⊥
+
 -- a reader that took these bytes and answered these events: it read lines, which lead to a pair so far, it keeps what
--- that takes, and the events are those of the lines, but for the one that it answers next
+-- that takes, and the events are those of the lines, but for the one that it answers next. Behind what can't be renamed
+-- nothing is said of events
 pub record Read (reader : Reader) (taken : List ℕ) (events : List Event) : Type 0 where
   pub lines : List (List ℕ)
-  pub state : State
+  pub state : Partial
   pub clean : AreLines lines
-  pub read : lines_read start lines ≡ Some state
+  pub read : partials_read begin lines ≡ Some state
   pub parts : taken ≡ flat_map line lines ++ reader.pending
   pub number : reader.lines ≡ length lines
-  pub seen : reader.seen ≡ summary state (if has_begun state.stage (length state.cert.blocks) (length state.cert.claims) then [] else state.code.maps)
-  pub told : events ++ listed reader.waiting ≡ events_at state.stage state.code state.cert
+  pub noted : reader.noted ≡ noted state (untold state)
+  pub told : IfSome (events_so_far state) (λ all. events ++ listed reader.waiting ≡ all)
   pub count : reader.count ≡ length taken
   pub within : reader.count ≤ reader.limit
-  pub short : length (flat_map event_text (listed reader.waiting) ++ reader.pending) ≤ MOST_HELD
-  pub other : reader.waiting ≡ Some event.End → ⊥
+  pub waits : IfSome reader.waiting (λ e. IsOfBoth e × (refusal_in reader.noted.form ≡ None))
+  pub short : (own : List ℕ) → StandFor (listed reader.waiting) own → length (own ++ reader.pending) ≤ MOST_HELD
 
 -- what holds of the bytes and the events so far: the events are the first ones of some pair, at most as many as bytes
 -- may come, the bytes begin with the lines for which they stand, and behind these are at most MOST_HELD
 pub record Follows (limit : ℕ) (taken : List ℕ) (events : List Event) : Type 0 where
   pub first : AreFirst events
   pub few : length events ≤ limit
+  pub front : List ℕ
   pub behind : List ℕ
-  pub stands : taken ≡ flat_map event_text events ++ behind
+  pub parts : taken ≡ front ++ behind
+  pub stands : StandFor events front
   pub short : length behind ≤ MOST_HELD
 
--- the bytes are the text of the pair whose events these are, and the source was read to its end
+-- the bytes are a text of the pair whose events these are, and the source was read to its end
 pub record Completes (taken : List ℕ) (events : List Event) (before after : Option (List ℕ)) : Type 0 where
   pub code : Listing
   pub cert : Claimed
   pub gave : events ≡ events_of code cert
-  pub text : IsTextOf taken code cert
+  pub text : IsBundleOf taken code cert
   pub end : IfSome before (λ rest. after ≡ Some [])
 
 -- the last event comes only with the end of the source
@@ -101,6 +116,14 @@ pub record Refuses (line limit : ℕ) (taken : List ℕ) (before after : Option 
   pub only : IsBundleText (taken ++ came) → ⊥
   pub first : NamesFirst IsBundleText line (taken ++ came)
 
+-- the bytes are the text of register code that can't be renamed, for this reason; the source was read to its end
+pub record Misnames (refusal : RegRefusal) (limit : ℕ) (taken : List ℕ) (before after : Option (List ℕ)) : Type 0 where
+  pub came : List ℕ
+  pub comes : Comes came before after
+  pub within : length (taken ++ came) ≤ limit
+  pub end : IfSome before (λ rest. after ≡ Some [])
+  pub text : IsRefusedText refusal (taken ++ came)
+
 -- more bytes came than may come
 pub record Overruns (limit : ℕ) (taken : List ℕ) (before after : Option (List ℕ)) : Type 0 where
   pub came : List ℕ
@@ -118,14 +141,16 @@ abbrev pub Denies : StreamRefusal → ℕ → List ℕ → Option (List ℕ) →
 Denies refusals.Fault limit taken before after = Faults limit taken before after
 Denies refusals.TooLong limit taken before after = Overruns limit taken before after
 Denies (refusals.Form line) limit taken before after = Refuses line limit taken before after
+Denies (refusals.Unset instr) limit taken before after = Misnames (unnamed.Unset instr) limit taken before after
+Denies (refusals.Register instr) limit taken before after = Misnames (unnamed.Register instr) limit taken before after
 Denies refusals.Memory limit taken before after = Unit {0}
 
--- a bundle was read whose text these bytes are, and the source to its end
+-- a bundle was read a text of which these bytes are, and the source to its end
 pub record Collected (bundle : Bundle) (limit : ℕ) (before after : Option (List ℕ)) : Type 0 where
   pub came : List ℕ
   pub comes : Comes came before after
   pub within : length came ≤ limit
-  pub text : IsTextOf came bundle.code bundle.cert
+  pub text : IsBundleOf came bundle.code bundle.cert
   pub end : IfSome before (λ rest. after ≡ Some [])
 
 -- what the whole text of a source gives

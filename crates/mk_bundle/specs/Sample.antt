@@ -1,5 +1,6 @@
 -- The texts of small pairs and the events of one, computed.
-use Rattle.std.specs.Prelude.{◌≡◌, ℕ, List, [], ◌∷◌, ◌++◌, flat_map, codes, refl}
+use Rattle.std.specs.Prelude.{◌≡◌, ℕ, ◌+◌, List, [], ◌∷◌, ◌++◌, None, codes, refl}
+use Rattle.std.proofs.Common.{inl, inr}
 use Rattle.std.specs.Fmt.{digits}
 use Rattle.mk_field.specs.declared.field.FieldId.TheVariants.{Gf256}
 use Rattle.mk_ssa.specs.declared.Operand.TheVariants.{Secret, Public, Block}
@@ -8,13 +9,14 @@ use Rattle.mk_code.specs.declared.instr.Instr.TheVariants.{Rnd, Const, Copy, Add
 use Rattle.mk_code.specs.Listing.{Listing}
 use Rattle.mk_regs.specs.declared.instr.RegInstr.TheVariants as reg
 use Rattle.mk_regs.specs.Form.{RegListing}
+use Rattle.mk_regs.specs.Renaming.{renamed_instrs, held_behind, renamed, outs_refusal, first_refusal, refusal_of}
 use Rattle.mk_rules.specs.Claimed.{Claimed}
 use Rattle.mk_lines.specs.Words.{line}
 use Rattle.mk_lines.specs.CodeLines.{out_lines}
 use Rattle.mk_bundle.specs.Text.{text, register_text}
 use Rattle.mk_bundle.specs.declared.event.Event.{Event}
 use Rattle.mk_bundle.specs.declared.event.Event.TheVariants as event
-use Rattle.mk_bundle.specs.Events.{outs_of, events_of, event_text}
+use Rattle.mk_bundle.specs.Events.{outs_of, events_of, StandFor}
 
 -- the sum of two secrets: shares 0 and 1 are those of the first secret, 2 and 3 those of the second
 abbrev pub sum_code : Listing
@@ -98,10 +100,119 @@ pub events-sum : events_of sum_code sum_cert ≡ sum_events
 unfolding outs_of
 events-sum = refl
 
+-- its first five lines
+abbrev first_five : List ℕ
+first_five = line (codes "mask 1") ++ line (codes "field gf256") ++ line (codes "order 1") ++ line (codes "secrets 2") ++ line (codes "publics 0")
+
 -- they stand for its lines
-pub lines-sum : flat_map event_text sum_events ≡ sum_text
+pub stand-sum : StandFor sum_events sum_text
 unfolding digits
-lines-sum = refl
+stand-sum = (
+  first_five,
+  _,
+  refl,
+  inl refl,
+  (
+    line (codes "block add s0 s1"),
+    _,
+    refl,
+    refl,
+    (
+      line (codes "claim b0"),
+      _,
+      refl,
+      refl,
+      (
+        line (codes "code"),
+        _,
+        refl,
+        refl,
+        (
+          line (codes "add 0 2"),
+          _,
+          refl,
+          inl refl,
+          (
+            line (codes "add 1 3"),
+            _,
+            refl,
+            inl refl,
+            (
+              line (codes "out 4 5"),
+              _,
+              refl,
+              inl refl,
+              (line (codes "end"), [], refl, refl, refl),
+            ),
+          ),
+        ),
+      ),
+    ),
+  ),
+)
+
+-- the first six lines of the sum over registers
+abbrev first_six : List ℕ
+first_six =
+    line (codes "mask 2") ++ line (codes "field gf256") ++ line (codes "order 1") ++ line (codes "secrets 2") ++ line (codes "publics 0") ++ line (codes "registers 4")
+
+-- the same events stand for the lines of the sum over registers: the outs are read from registers 0 and 1, which hold
+-- entries 4 and 5
+pub stand-sum-registers : StandFor sum_events sum_register_text
+unfolding digits
+stand-sum-registers = (
+  first_six,
+  _,
+  refl,
+  inr (4, refl),
+  (
+    line (codes "block add s0 s1"),
+    _,
+    refl,
+    refl,
+    (
+      line (codes "claim b0"),
+      _,
+      refl,
+      refl,
+      (
+        line (codes "code"),
+        _,
+        refl,
+        refl,
+        (
+          line (codes "add 0 0 2"),
+          _,
+          refl,
+          inr (reg.Add 0 0 2, (λ n. n), refl, refl),
+          (
+            line (codes "add 1 1 3"),
+            _,
+            refl,
+            inr (reg.Add 1 1 3, (λ n. n), refl, refl),
+            (
+              line (codes "out 0 1"),
+              _,
+              refl,
+              inr (0 ∷ 1 ∷ [], (λ n. n + 4), refl, refl),
+              (line (codes "end"), [], refl, refl, refl),
+            ),
+          ),
+        ),
+      ),
+    ),
+  ),
+)
+
+-- the register code of the sum is renamed to the sum over positions
+pub renamed-sum : renamed sum_registers ≡ sum_code
+unfolding renamed_instrs held_behind
+renamed-sum = refl
+
+-- and nothing in it is refused
+pub runs-sum : refusal_of sum_registers ≡ None
+unfolding first_refusal outs_refusal
+runs-sum = refl
 
 -- a code with an instruction of each kind, and two outputs
 abbrev pub kinds_code : Listing

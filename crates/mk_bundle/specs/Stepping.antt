@@ -10,19 +10,35 @@ use Rattle.mk_bundle.specs.declared.event.Head.{Head}
 use Rattle.mk_bundle.specs.declared.event.Event.{Event}
 use Rattle.mk_bundle.specs.declared.event.Event.TheVariants as event
 use Rattle.mk_bundle.specs.declared.refusal.StreamRefusal.{StreamRefusal}
+use Rattle.mk_bundle.specs.declared.refusal.StreamRefusal.TheVariants as refusals
+use Rattle.mk_regs.specs.declared.refusal.RegRefusal.{RegRefusal}
+use Rattle.mk_regs.specs.declared.refusal.RegRefusal.TheVariants as unnamed
 use Rattle.mk_bundle.specs.declared.step.Step.{Step}
 use Rattle.mk_bundle.specs.declared.step.Step.TheVariants as steps
 use Rattle.mk_bundle.specs.Counting.{Seen}
+use Rattle.mk_bundle.specs.Noting.{refusal_in}
 use Rattle.mk_bundle.specs.Taking.{Comes}
 use Rattle.mk_bundle.specs.Reads.{Reader, IsGoing, to_come, Read, Denies, Completes}
+
+-- register code that can't be renamed, as a refusal of its text
+abbrev pub stream_of : RegRefusal → StreamRefusal
+stream_of (unnamed.Unset instr) = refusals.Unset instr
+stream_of (unnamed.Register instr) = refusals.Register instr
+stream_of unnamed.Memory = refusals.Memory
+
+-- what comes at the end of a text: the last event, or that refusal
+abbrev pub end_of : Option RegRefusal → Result Event StreamRefusal
+end_of (Some refusal) = Err (stream_of refusal)
+end_of None = Ok event.End
 
 -- whatever comes behind these bytes, no bundle text goes on behind so many lines of them
 abbrev pub GoesWrong : ℕ → List ℕ → Type 0
 GoesWrong lines taken = (came : List ℕ) → (IsBundleText (taken ++ came) → ⊥) × NamesFirst IsBundleText (lines + 1) (taken ++ came)
 
--- an event was answered, and it is not the last one
+-- an event was answered, and it is not the last one; nothing was refused
 pub record Tells (e : Event) (old new : Reader) : Type 0 where
   pub going : IsGoing new
+  pub renames : (taken : List ℕ) (events : List Event) → Read old taken events → refusal_in new.noted.form ≡ None
   pub other : e ≡ event.End → ⊥
   pub limit : new.limit ≡ old.limit
   pub fewer : to_come new < to_come old
@@ -41,7 +57,7 @@ pub record Reached (old new : Reader) : Type 0 where
   pub limit : new.limit ≡ old.limit
   pub waiting : new.waiting ≡ None
   pub fewer : to_come new < to_come old
-  pub ended : new.seen.stage ≡ Ended
+  pub ended : new.noted.seen.stage ≡ Ended
   pub read : (taken : List ℕ) (events : List Event) → Read old taken events → Read new taken (events ++ event.End ∷ [])
 
 -- no whole line is held, and one may be still
@@ -64,7 +80,7 @@ kept_head seen = record { field = seen.field; order = seen.order; secrets = seen
 -- the event that is answered first where this one came: this one, or the head, and this one waits
 abbrev pub Hands : Bool → Event → Event → Reader → Reader → Type 0
 Hands true e first old new = (first ≡ e) × (new ≡ old)
-Hands false e first old new = (first ≡ event.Head (kept_head old.seen)) × (new ≡ record old { waiting = Some e; seen = record old.seen { untold = [] } })
+Hands false e first old new = (first ≡ event.Head (kept_head old.noted.seen)) × (new ≡ record old { waiting = Some e; noted = record old.noted { seen = record old.noted.seen { untold = [] } } })
 
 -- what a step does, where no event waits
 abbrev pub Stepped : Step → Reader → Reader → Type 0
@@ -95,9 +111,10 @@ abbrev pub Grows : Result ℕ StreamRefusal → Reader → Reader → Option (Li
 Grows (Ok n) old new before after = Grown n old new before after
 Grows (Err refusal) old new before after = (taken : List ℕ) → old.count ≡ length taken → Denies refusal old.limit taken before after
 
--- a reader that read the last line ends
+-- a reader that read the last line ends; with the last event where nothing was refused
 abbrev pub Ending : Result Event StreamRefusal → Reader → List ℕ → List Event → Option (List ℕ) → Option (List ℕ) → Type 0
-Ending (Ok e) new taken events before after = (e ≡ event.End) × Comes [] before after × Read new taken events × Completes taken events before after
+Ending (Ok e) new taken events before after =
+    (e ≡ event.End) × Comes [] before after × Read new taken events × (refusal_in new.noted.form ≡ None) × Completes taken events before after
 Ending (Err refusal) new taken events before after = Denies refusal new.limit taken before after
 
 -- the same of any bytes and events

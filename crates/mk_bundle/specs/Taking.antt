@@ -46,6 +46,8 @@ Feeds (Ok n) old new before after = Fed n old new before after
 Feeds (Err refusals.Fault) old new before after = Fails old before after
 Feeds (Err refusals.TooLong) old new before after = Exceeds old before after
 Feeds (Err (refusals.Form line)) old new before after = ⊥
+Feeds (Err (refusals.Unset instr)) old new before after = ⊥
+Feeds (Err (refusals.Register instr)) old new before after = ⊥
 Feeds (Err refusals.Memory) old new before after = Unit {0}
 
 -- all bytes that were left came
@@ -61,6 +63,8 @@ Drains (Ok done) old before after = Ends old before after
 Drains (Err refusals.Fault) old before after = Fails old before after
 Drains (Err refusals.TooLong) old before after = Exceeds old before after
 Drains (Err (refusals.Form line)) old before after = ⊥
+Drains (Err (refusals.Unset instr)) old before after = ⊥
+Drains (Err (refusals.Register instr)) old before after = ⊥
 Drains (Err refusals.Memory) old before after = Unit {0}
 
 -- the first line that is held, or none where no line feed is

@@ -1,13 +1,14 @@
 //! What was read of a bundle text so far, and how a line goes on with it.
 
-ghost use Rattle.std.specs.Prelude.{◌≡◌, ◌≤◌, ◌<◌, ◌+◌, [], IfSome, IsTrue, ◌↔◌};
+ghost use Rattle.std.specs.Prelude.{◌≡◌, ◌≤◌, ◌<◌, ◌+◌, ◌*◌, [], IfSome, IsTrue, ◌↔◌};
 ghost use Rattle.mk_bundle.specs.declared.draft.Stage.TheVariants.{Lower, Ended};
 ghost use Rattle.mk_field.specs.Field.{size};
-ghost use Rattle.mk_code.specs.declared.TheConstants.{MOST_MAPS, MOST_INSTRS};
-ghost use Rattle.mk_rules.specs.declared.TheConstants.{MOST_BLOCKS};
+ghost use Rattle.mk_code.specs.Listing.{inputs_len};
+ghost use Rattle.mk_code.specs.declared.TheConstants.{MOST_INPUTS, MOST_MAPS, MOST_INSTRS};
+ghost use Rattle.mk_rules.specs.declared.TheConstants.{TEXT_TOP_ORDER, MOST_BLOCKS};
 ghost use Rattle.mk_bundle.specs.Events.{has_begun};
 ghost use Rattle.mk_bundle.specs.Reading.{start, headed, fits_at};
-ghost use Rattle.mk_bundle.specs.Counting.{seen_of, summary, HasBounds, Steps, entries, version_counted, field_counted, order_counted, secrets_counted, publics_counted, map_counts, map_counted, block_counts, block_counted, claim_counted, code_counted, upper_counted, instr_counts, instr_counted, out_counted, lower_counted, line_counted};
+ghost use Rattle.mk_bundle.specs.Counting.{seen_of, summary, HasBounds, Steps, entries, version_counted, field_counted, order_counted, secrets_counted, publics_counted, map_counts, map_counted, block_counts, block_counted, claim_counted, code_counted, cert_counted, upper_counted, instr_counts, instr_counted, out_counted, lower_counted, line_counted};
 
 use crate::event::{Event, Head};
 use mk_base::Items;
@@ -23,7 +24,7 @@ use std::mem;
 /// Which lines stand next.
 #[derive(Clone, Copy, Debug, PartialEq, Eq)]
 pub(crate) enum Stage {
-    /// `mask 1`.
+    /// `mask 1` or `mask 2`.
     Version,
     /// The field.
     Field,
@@ -33,7 +34,7 @@ pub(crate) enum Stage {
     Secrets,
     /// The number of publics.
     Publics,
-    /// Maps, then blocks, then claims, and then `code`.
+    /// Maps, in version 2 the number of registers, then blocks, then claims, and then `code`.
     Upper,
     /// Instructions, then outputs, and then `end`.
     Lower,
@@ -64,7 +65,7 @@ pub(crate) struct Draft {
 }
 
 /// What a line is refused for, or the event that it gives, if it has one of its own.
-type Line = Result<Option<Event>, LineRefusal>;
+pub(crate) type Line = Result<Option<Event>, LineRefusal>;
 
 /// Before the first line.
 pub(crate) fn empty_draft(alloc: Global) -> Draft
@@ -88,10 +89,11 @@ pub(crate) fn empty_draft(alloc: Global) -> Draft
 
 /// The line of the version.
 #[tactic(auto, unfolding(crate::specs::Counting::version_counted))]
-fn read_version(draft: &mut Draft, line: &[u8]) -> Line
+pub(crate) fn read_version(draft: &mut Draft, line: &[u8]) -> Line
     requires { HasBounds (seen_of draft.old) }
     ensures steps { Steps result (seen_of draft.new) (version_counted (seen_of draft.old) line.now) }
     ensures bounds { HasBounds (seen_of draft.new) }
+    ensures grows { draft.old.instrs ≤ draft.new.instrs }
 {
     if line != b"mask 1".as_slice() {
         return Err(LineRefusal::Form);
@@ -106,6 +108,7 @@ fn read_field(draft: &mut Draft, line: &[u8]) -> Line
     requires { HasBounds (seen_of draft.old) }
     ensures steps { Steps result (seen_of draft.new) (field_counted (seen_of draft.old) line.now) }
     ensures bounds { HasBounds (seen_of draft.new) }
+    ensures grows { draft.old.instrs ≤ draft.new.instrs }
 {
     let field = field_of(line).ok_or(LineRefusal::Form)?;
     draft.field = field;
@@ -115,7 +118,7 @@ fn read_field(draft: &mut Draft, line: &[u8]) -> Line
 
 /// The number in a line that begins so, at most `most`.
 #[tactic(auto, unfolding(crate::specs::Reading::headed))]
-fn headed(name: &[u8], most: u32, line: &[u8]) -> Option<u32>
+pub(crate) fn headed(name: &[u8], most: u32, line: &[u8]) -> Option<u32>
     ensures value { result ≡ headed name.now most line.now }
     ensures few { IfSome result (λ number. number ≤ most) }
 {
@@ -133,6 +136,7 @@ fn read_order(draft: &mut Draft, line: &[u8]) -> Line
     requires { HasBounds (seen_of draft.old) }
     ensures steps { Steps result (seen_of draft.new) (order_counted (seen_of draft.old) line.now) }
     ensures bounds { HasBounds (seen_of draft.new) }
+    ensures grows { draft.old.instrs ≤ draft.new.instrs }
 {
     let number = headed(b"order ", u32::from(TEXT_TOP_ORDER), line).ok_or(LineRefusal::Form)?;
     if number < 1 {
@@ -149,6 +153,7 @@ fn read_secrets(draft: &mut Draft, line: &[u8]) -> Line
     requires { HasBounds (seen_of draft.old) }
     ensures steps { Steps result (seen_of draft.new) (secrets_counted (seen_of draft.old) line.now) }
     ensures bounds { HasBounds (seen_of draft.new) }
+    ensures grows { draft.old.instrs ≤ draft.new.instrs }
 {
     let number = headed(b"secrets ", MOST_INPUTS, line).ok_or(LineRefusal::Form)?;
     draft.secrets = number;
@@ -162,6 +167,7 @@ fn read_publics(draft: &mut Draft, line: &[u8]) -> Line
     requires { HasBounds (seen_of draft.old) }
     ensures steps { Steps result (seen_of draft.new) (publics_counted (seen_of draft.old) line.now) }
     ensures bounds { HasBounds (seen_of draft.new) }
+    ensures grows { draft.old.instrs ≤ draft.new.instrs }
 {
     let number = headed(b"publics ", MOST_INPUTS, line).ok_or(LineRefusal::Form)?;
     draft.publics = number;
@@ -180,10 +186,11 @@ fn may_map(draft: &Draft) -> bool
 
 /// The line of a map, behind its first word.
 #[tactic(auto, unfolding(crate::specs::Counting::map_counted))]
-fn read_map(draft: &mut Draft, words: &[u8]) -> Line
+pub(crate) fn read_map(draft: &mut Draft, words: &[u8]) -> Line
     requires { HasBounds (seen_of draft.old) }
     ensures steps { Steps result (seen_of draft.new) (map_counted (seen_of draft.old) words.now) }
     ensures bounds { HasBounds (seen_of draft.new) }
+    ensures grows { draft.old.instrs ≤ draft.new.instrs }
 {
     let map = map_of(words).ok_or(LineRefusal::Form)?;
     if !may_map(draft) {
@@ -209,6 +216,7 @@ fn read_block(draft: &mut Draft, words: &[u8]) -> Line
     requires { HasBounds (seen_of draft.old) }
     ensures steps { Steps result (seen_of draft.new) (block_counted (seen_of draft.old) words.now) }
     ensures bounds { HasBounds (seen_of draft.new) }
+    ensures grows { draft.old.instrs ≤ draft.new.instrs }
 {
     let op = op_of(words).ok_or(LineRefusal::Form)?;
     if !may_block(draft) {
@@ -224,6 +232,7 @@ fn read_claim(draft: &mut Draft, words: &[u8]) -> Line
     requires { HasBounds (seen_of draft.old) }
     ensures steps { Steps result (seen_of draft.new) (claim_counted (seen_of draft.old) words.now) }
     ensures bounds { HasBounds (seen_of draft.new) }
+    ensures grows { draft.old.instrs ≤ draft.new.instrs }
 {
     let value = operand_of(words).ok_or(LineRefusal::Form)?;
     if draft.claims >= MOST_CLAIMS {
@@ -239,6 +248,7 @@ fn read_code(draft: &mut Draft, line: &[u8]) -> Line
     requires { HasBounds (seen_of draft.old) }
     ensures steps { Steps result (seen_of draft.new) (code_counted (seen_of draft.old) line.now) }
     ensures bounds { HasBounds (seen_of draft.new) }
+    ensures grows { draft.old.instrs ≤ draft.new.instrs }
 {
     if line != b"code".as_slice() {
         return Err(LineRefusal::Form);
@@ -247,16 +257,14 @@ fn read_code(draft: &mut Draft, line: &[u8]) -> Line
     Ok(Some(Event::Code))
 }
 
-/// A line between the head and the code.
-#[tactic(auto, unfolding(crate::specs::Counting::upper_counted))]
-fn read_upper(draft: &mut Draft, line: &[u8]) -> Line
+/// A line of the certificate.
+#[tactic(auto, unfolding(crate::specs::Counting::cert_counted))]
+pub(crate) fn read_cert(draft: &mut Draft, line: &[u8]) -> Line
     requires { HasBounds (seen_of draft.old) }
-    ensures steps { Steps result (seen_of draft.new) (upper_counted (seen_of draft.old) line.now) }
+    ensures steps { Steps result (seen_of draft.new) (cert_counted (seen_of draft.old) line.now) }
     ensures bounds { HasBounds (seen_of draft.new) }
+    ensures grows { draft.old.instrs ≤ draft.new.instrs }
 {
-    if let Some(words) = after(b"map ", line) {
-        return read_map(draft, words);
-    }
     if let Some(words) = after(b"block ", line) {
         return read_block(draft, words);
     }
@@ -266,16 +274,39 @@ fn read_upper(draft: &mut Draft, line: &[u8]) -> Line
     read_code(draft, line)
 }
 
+/// A line between the head and the code.
+#[tactic(auto, unfolding(crate::specs::Counting::upper_counted))]
+fn read_upper(draft: &mut Draft, line: &[u8]) -> Line
+    requires { HasBounds (seen_of draft.old) }
+    ensures steps { Steps result (seen_of draft.new) (upper_counted (seen_of draft.old) line.now) }
+    ensures bounds { HasBounds (seen_of draft.new) }
+    ensures grows { draft.old.instrs ≤ draft.new.instrs }
+{
+    if let Some(words) = after(b"map ", line) {
+        return read_map(draft, words);
+    }
+    read_cert(draft, line)
+}
+
+/// How many shares and public inputs there are.
+pub(crate) fn inputs_len(draft: &Draft) -> u32
+    requires { HasBounds (seen_of draft.now) }
+    ensures value { result ≡ inputs_len draft.now.order draft.now.secrets draft.now.publics }
+    ensures few { result ≤ MOST_INPUTS * (TEXT_TOP_ORDER + 2) }
+{
+    draft.secrets * (u32::from(draft.order) + 1) + draft.publics
+}
+
 /// How many entries the trace has so far.
 fn trace_len(draft: &Draft) -> u32
     requires { HasBounds (seen_of draft.now) }
     ensures { result ≡ entries (seen_of draft.now) }
 {
-    draft.secrets * (u32::from(draft.order) + 1) + draft.publics + draft.instrs
+    inputs_len(draft) + draft.instrs
 }
 
 /// The greatest element of a field.
-fn greatest(field: FieldId) -> u8
+pub(crate) fn greatest(field: FieldId) -> u8
     ensures { result + 1 ≡ size field }
 {
     match field {
@@ -326,6 +357,7 @@ fn read_instr(draft: &mut Draft, line: &[u8]) -> Line
     requires { HasBounds (seen_of draft.old) }
     ensures steps { Steps result (seen_of draft.new) (instr_counted (seen_of draft.old) line.now) }
     ensures bounds { HasBounds (seen_of draft.new) }
+    ensures grows { draft.old.instrs ≤ draft.new.instrs }
 {
     let instr = instr_of(line).ok_or(LineRefusal::Form)?;
     if !may_instr(draft, instr) {
@@ -341,13 +373,14 @@ fn read_out(draft: &mut Draft, alloc: Global, words: &[u8]) -> Line
     requires { HasBounds (seen_of draft.old) }
     ensures steps { Steps result (seen_of draft.new) (out_counted (seen_of draft.old) words.now) }
     ensures bounds { HasBounds (seen_of draft.new) }
+    ensures grows { draft.old.instrs ≤ draft.new.instrs }
 {
     let len = trace_len(draft);
     let shares = u32::from(draft.order) + 1;
     if draft.outs >= MOST_INPUTS * shares {
         return Err(LineRefusal::Form);
     }
-    let positions = positions_of(alloc, shares, len, words)?;
+    let positions = positions_of(alloc, shares, u64::from(len), words)?;
     draft.outs += shares;
     Ok(Some(Event::Out(positions)))
 }
@@ -358,6 +391,7 @@ fn read_lower(draft: &mut Draft, alloc: Global, line: &[u8]) -> Line
     requires { HasBounds (seen_of draft.old) }
     ensures steps { Steps result (seen_of draft.new) (lower_counted (seen_of draft.old) line.now) }
     ensures bounds { HasBounds (seen_of draft.new) }
+    ensures grows { draft.old.instrs ≤ draft.new.instrs }
 {
     if let Some(words) = after(b"out", line) {
         return read_out(draft, alloc, words);
@@ -375,6 +409,7 @@ pub(crate) fn read_line(draft: &mut Draft, alloc: Global, line: &[u8]) -> Line
     requires { HasBounds (seen_of draft.old) }
     ensures steps { Steps result (seen_of draft.new) (line_counted (seen_of draft.old) line.now) }
     ensures bounds { HasBounds (seen_of draft.new) }
+    ensures grows { draft.old.instrs ≤ draft.new.instrs }
 {
     match draft.stage {
         Stage::Version => read_version(draft, line),

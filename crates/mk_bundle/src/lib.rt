@@ -21,20 +21,21 @@
 //!   `map D M S`, where D is the register that is written;
 //! - `out` has registers, which are read behind the last instruction.
 //!
-//! Version 2 is written, and not read yet.
-//!
 //! A text has at most 131,072 blocks and 65,536 claims; a code keeps the limits on its own lines.
 //! Positions and maps in the lines of a code are those that there are, and elements are of its field. In
-//! the lines of blocks numbers are any of 32 bits, and so are registers.
+//! the lines of blocks numbers are any of 32 bits, and so are registers in those of instructions and outputs.
 //!
-//! Reading names the first line where no bundle text goes on. A text is cut into lines that end with a
-//! line feed; what stands behind the last one is a further line, which lacks it.
+//! Both versions are read as code over positions: while version 2 is read, each register is replaced by the
+//! position of the entry that it holds. Reading names the first line where no bundle text goes on. A text is cut into
+//! lines that end with a line feed; what stands behind the last one is a further line, which lacks it. Where all lines
+//! are read, but a register isn't there or is read while it holds nothing, the first instruction that does so is named.
 #![tactic(auto)]
 
 mod collect;
 mod draft;
 mod event;
 mod input;
+mod notes;
 mod read;
 mod reader;
 mod refusal;

@@ -1,5 +1,5 @@
 //! Reading a bundle's text from a source, event by event. Of the text a few bytes are held, and nothing else that
-//! grows with it but the maps of the head.
+//! grows with it but the maps of the head, and in version 2 four bytes for each register.
 
 ghost use Rattle.std.specs.Prelude.{◌≡◌, ◌≤◌, ◌<◌, ◌+◌, [], ℕ, List, Some, None, Err, IfOk, IfSome, IfNone, OnOk, length};
 ghost use Rattle.mk_base.specs.Outside.{Rose};
@@ -9,11 +9,10 @@ ghost use Rattle.mk_bundle.specs.declared.draft.Stage.TheVariants.{Ended};
 ghost use Rattle.mk_bundle.specs.declared.event.Event.{Event};
 ghost use Rattle.mk_bundle.specs.declared.event.Event.TheVariants as event;
 
-use crate::draft::{
-    Draft, count_instr, empty_draft, has_begun, is_ended, is_lower, may_instr, read_line, told_head,
-};
+use crate::draft::{count_instr, has_begun, is_ended, is_lower, may_instr, told_head};
 use crate::event::Event;
 use crate::input::Input;
+use crate::notes::{Notes, empty_notes, is_over_positions, read_noted, refusal_in};
 use crate::refusal::StreamRefusal;
 use crate::step::Step;
 use mk_base::{Memory, Source};
@@ -26,7 +25,7 @@ use std::marker::Model;
 #[derive(Drop)]
 pub struct BundleReader {
     alloc: Global,
-    draft: Draft,
+    notes: Notes,
     waiting: Option<Event>,
     lines: u32,
     input: Input,
@@ -34,19 +33,20 @@ pub struct BundleReader {
 
 impl Model for BundleReader {
     ghost use Rattle.std.specs.Prelude.{◌≤◌, ◌+◌, ◌*◌, length};
-    ghost use Rattle.mk_bundle.specs.Counting.{seen_of, HasBounds};
+    ghost use Rattle.mk_bundle.specs.Noting.{noted_of, IsBounded};
     ghost use Rattle.mk_bundle.specs.Reads.{Reader};
 
     ghost Value = { Reader };
 
-    ghost view = { λ r. record { seen = seen_of r.draft; waiting = r.waiting; lines = r.lines; pending = r.input.pending; count = r.input.count; limit = r.input.limit } };
+    ghost view = { λ r. record { noted = noted_of r.notes; waiting = r.waiting; lines = r.lines; pending = r.input.pending; count = r.input.count; limit = r.input.limit } };
 
-    ghost invariant = { λ r. HasBounds (seen_of r.draft) × (2 * r.lines + length r.input.pending ≤ r.input.count) };
+    ghost invariant = { λ r. IsBounded (noted_of r.notes) × (2 * r.lines + length r.input.pending ≤ r.input.count) };
 }
 
 impl BundleReader {
     ghost use Rattle.mk_bundle.specs.Reads.{IsGoing, to_come, Read, Next};
-    ghost use Rattle.mk_bundle.specs.Stepping.{Hands, Tells, Stepped, Grows, Finishes, Refused};
+    ghost use Rattle.mk_bundle.specs.Noting.{refusal_in};
+    ghost use Rattle.mk_bundle.specs.Stepping.{Hands, Tells, Stepped, Grows, Finishes, Refused, end_of};
 
     /// A reader that took nothing yet. At most `limit` bytes may come.
     pub fn new(alloc: Global, limit: u32) -> Result<BundleReader, Memory>
@@ -57,7 +57,7 @@ impl BundleReader {
         let input = Input::new(alloc, limit)?;
         Ok(BundleReader {
             alloc,
-            draft: empty_draft(alloc),
+            notes: empty_notes(alloc),
             waiting: None,
             lines: 0,
             input,
@@ -73,7 +73,7 @@ impl BundleReader {
             return event;
         }
         self.waiting = Some(event);
-        Event::Head(told_head(&mut self.draft, self.alloc))
+        Event::Head(told_head(&mut self.notes.draft, self.alloc))
     }
 
     /// Reads the first line that is held, where it is that of an instruction that may stand there. Nothing is read
@@ -83,15 +83,18 @@ impl BundleReader {
         ensures some { IfSome result (λ i. Tells (event.Instr i) self.old self.new) }
         ensures none { IfNone result (self.new ≡ self.old) }
     {
-        if !is_lower(&self.draft) {
+        if !is_over_positions(&self.notes) {
+            return None;
+        }
+        if !is_lower(&self.notes.draft) {
             return None;
         }
         let (instr, len) = self.input.instr()?;
-        if !may_instr(&self.draft, instr) {
+        if !may_instr(&self.notes.draft, instr) {
             return None;
         }
         let _count = self.input.count();
-        count_instr(&mut self.draft);
+        count_instr(&mut self.notes.draft);
         self.input.pass(len + 1);
         self.lines += 1;
         Some(instr)
@@ -124,10 +127,10 @@ impl BundleReader {
         if line.is_empty() {
             return Step::Wrong;
         }
-        let begun = has_begun(&self.draft);
+        let begun = has_begun(&self.notes.draft);
         let len = line.len();
         let _count = self.input.count();
-        match read_line(&mut self.draft, self.alloc, line) {
+        match read_noted(&mut self.notes, self.alloc, line) {
             Err(LineRefusal::Form) => Step::Wrong,
             Err(LineRefusal::Memory) => Step::Memory,
             Ok(told) => {
@@ -136,7 +139,7 @@ impl BundleReader {
                 let Some(event) = told else {
                     return Step::Quiet;
                 };
-                if is_ended(&self.draft) {
+                if is_ended(&self.notes.draft) {
                     return Step::Over;
                 }
                 Step::Told(self.told(begun, event))
@@ -185,10 +188,20 @@ impl BundleReader {
         Err(StreamRefusal::Form { line })
     }
 
+    /// The last event, or why the register code of the text can't be renamed.
+    fn end(&self) -> Result<Event, StreamRefusal>
+        ensures { result ≡ end_of (refusal_in self.now.noted.form) }
+    {
+        match refusal_in(&self.notes) {
+            Some(refusal) => Err(StreamRefusal::from(refusal)),
+            None => Ok(Event::End),
+        }
+    }
+
     /// The last event, where the source is at its end.
     fn finish<S: Source>(&mut self, src: &mut S) -> Result<Event, StreamRefusal>
         requires waiting { self.old.waiting ≡ None }
-        requires ended { self.old.seen.stage ≡ Ended }
+        requires ended { self.old.noted.seen.stage ≡ Ended }
         ensures finishes { Finishes result self.old self.new (S.left src.old) (S.left src.new) }
         ensures last { IfOk result (λ e. e ≡ event.End) }
         ensures limit { self.new.limit ≡ self.old.limit }
@@ -203,7 +216,7 @@ impl BundleReader {
         if count > 0 {
             return self.refuse(src);
         }
-        Ok(Event::End)
+        self.end()
     }
 
     /// The event that waits, which waits no more.
@@ -249,7 +262,9 @@ impl BundleReader {
     /// The next event. It takes bytes of the source only where none waits, and asks for more only where no whole line is
     /// held. `End` is answered once the source was read to its end, and nothing may be asked behind it. Where no bundle
     /// text goes on, `Form` is answered once the source was read to its end, if no fault comes and no more bytes than the
-    /// limit; and where there are more, `TooLong`. Behind a refusal the reader says nothing more of the text.
+    /// limit; and where there are more, `TooLong`. Where the text is that of register code that can't be renamed, no event
+    /// comes of what stands behind, and `Unset` or `Register` is answered in the place of `End`. Behind a refusal the
+    /// reader says nothing more of the text.
     pub fn next<S: Source>(&mut self, src: &mut S) -> Result<Event, StreamRefusal>
         // The last event was not answered yet.
         requires { IsGoing self.old }

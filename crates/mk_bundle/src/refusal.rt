@@ -1,4 +1,5 @@
 use mk_base::{Failed, Memory};
+use mk_regs::RegRefusal;
 use std::alloc::AllocError;
 use thiserror::Error;
 
@@ -16,6 +17,14 @@ pub enum StreamRefusal {
     /// read to its end, which came before a fault and before more bytes than the limit.
     #[error("line {line} doesn't go on with a bundle text")]
     Form { line: u32 },
+    /// The bytes are the text of register code, and its instruction of this number, from 0, is the first that can't be
+    /// carried out: it reads a register that holds nothing. An out counts as read by the instruction behind the last. The
+    /// source was read to its end, which came before a fault and before more bytes than the limit.
+    #[error("instruction {instr} reads a register that holds nothing")]
+    Unset { instr: u32 },
+    /// The same, where the instruction names a register that isn't there.
+    #[error("instruction {instr} names a register that isn't there")]
+    Register { instr: u32 },
     /// Memory was wanted and not found.
     #[error("out of memory")]
     Memory,
@@ -51,5 +60,20 @@ impl From<AllocError> for StreamRefusal {
 
     fn from(_error: AllocError) -> StreamRefusal {
         StreamRefusal::Memory
+    }
+}
+
+impl From<RegRefusal> for StreamRefusal {
+    ghost use Rattle.std.specs.Prelude.{◌≡◌};
+    ghost use Rattle.mk_bundle.specs.Stepping.{stream_of};
+
+    ghost from_gives = { λ refusal e. e ≡ stream_of refusal };
+
+    fn from(refusal: RegRefusal) -> StreamRefusal {
+        match refusal {
+            RegRefusal::Unset { instr } => StreamRefusal::Unset { instr },
+            RegRefusal::Register { instr } => StreamRefusal::Register { instr },
+            RegRefusal::Memory => StreamRefusal::Memory,
+        }
     }
 }

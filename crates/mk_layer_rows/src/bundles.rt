@@ -20,7 +20,7 @@ const KINDS: &str =
     "mask 1\nfield gf256\norder 2\nsecrets 1\npublics 1\nmap 1f3e7cf8f1e3c78f\nblock const 63\nblock padd p0 b0\nblock pmul b0 b1\nblock psq b2\nblock pmap 0 b3\nblock lift b4\nblock add s0 b5\nblock addp b6 p0\nblock scale b7 b0\nblock sq b8\nblock map 0 b9\nblock mul b10 s0\nblock refresh b11\nclaim s0\nclaim b12\ncode\nrnd\nconst 0a\ncopy 3\nadd 0 4\nmul 1 5\nsq 2\nmap 0 9\nout 0 1 2\nout 10 9 8\nend\n";
 
 /// What is read of a text that isn't too long.
-fn read(alloc: Global, text: &str) -> Result<Bundle, BundleRefusal>
+pub(crate) fn read(alloc: Global, text: &str) -> Result<Bundle, BundleRefusal>
     ensures { IfOk result (λ b. IsPair b.code b.cert) }
 {
     if text.len() > MOST_BYTES as usize {
@@ -304,7 +304,7 @@ fn sources_are_refused(rt: HostRuntime) {
 #[test]
 fn wrong_texts_are_read_to_their_end(rt: HostRuntime) {
     // The first line is wrong, and there are 25 bytes, of which eight come at once.
-    let text = "mask 2\nfield gf2\norder 1\n";
+    let text = "mask 3\nfield gf2\norder 1\n";
     for (fail, limit, wanted) in [
         (0, 25, StreamRefusal::Form { line: 1 }),
         (3, 25, StreamRefusal::Fault),

@@ -171,7 +171,7 @@ fn read_out(alloc: Global, draft: &mut Draft, words: &[u8]) -> Result<(), LineRe
 {
     let shares = count_shares(draft);
     let end = count_positions(draft);
-    let outs = match positions_of(alloc, u32::from(draft.order) + 1, end, words) {
+    let outs = match positions_of(alloc, u32::from(draft.order) + 1, u64::from(end), words) {
         Ok(outs) => outs,
         Err(refusal) => return Err(refusal),
     };

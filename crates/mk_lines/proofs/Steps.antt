@@ -68,6 +68,11 @@ pub or_found : {A : Type 0} (o other : Option A) (x : A) → or_else o other ≡
 or_found (Some y) other x e = inl e
 or_found None other x e = inr e
 
+-- where the first of two gave something, that is given
+pub or_again : {A : Type 0} (o other : Option A) (x : A) → o ≡ Some x → or_else o other ≡ Some x
+or_again (Some y) other x e = e
+or_again None other x e = absurd cc
+
 -- the bytes are those of this word
 pub is_word : (bytes word : List ℕ) → bytes_eq bytes word ≡ true → bytes ≡ word
 is_word bytes word e = (bytes_eq-Decides bytes word).0 e

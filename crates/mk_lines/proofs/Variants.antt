@@ -13,9 +13,9 @@ use Rattle.mk_field.specs.Digits.{hex_byte}
 use Rattle.mk_lines.specs.CertLines.{pair_words, mapped_words, op_line}
 use Rattle.mk_ssa.specs.Widths.{OperandFits, OpFits}
 use Rattle.mk_lines.specs.CodeLines.{instr_line, into_line, InstrFits, IntoFits}
-use Rattle.mk_lines.specs.Parsing.{◌>>=◌, after, behind, or_else, whole, hex_at, hex_of, number_at, numbers_at, operand_of, pair_of, mapped_of, public_op_of, single_op_of, pair_op_of, op_of, rnd_at, const_or_copy_at, add_at, mul_or_map_at, sq_at, instr_at, instr_of, numbers_of, target_at, into_by, into_of}
-use Rattle.mk_lines.proofs.Steps.{bind_some, same_some, behind_found, or_found, whole_found, after_again}
-use Rattle.mk_lines.proofs.Numbers.{EndsNumber, number_found, number_again, number_of_again}
+use Rattle.mk_lines.specs.Parsing.{◌>>=◌, after, behind, or_else, whole, hex_at, hex_of, number_at, number_of, numbers_at, operand_of, pair_of, mapped_of, public_op_of, single_op_of, pair_op_of, op_of, rnd_at, const_or_copy_at, add_at, mul_or_map_at, sq_at, instr_at, instr_of, numbers_of, target_at, into_by, add_into, mul_or_map_into, rnd_into, const_or_copy_into, sq_into, into_of}
+use Rattle.mk_lines.proofs.Steps.{bind_some, same_some, behind_found, or_found, or_again, whole_found, after_found, after_again}
+use Rattle.mk_lines.proofs.Numbers.{EndsNumber, number_found, number_again, number_of_found, number_of_again}
 use Rattle.mk_lines.proofs.Spelled.{hex_found, hex_again, hex_of_found, hex_of_again, operand_of_found, operand_of_again, pair_found, pair_again, mapped_found, mapped_again, number_words, numbers_found, numbers_again}
 
 -- what stands in the line of a block behind `block `
@@ -334,6 +334,146 @@ into_line-words to (instr.Mul left right) = ap line (three_numbers (codes "mul "
 into_line-words to (instr.Sq from) = refl
 into_line-words to (instr.Map map from) = ap line (three_numbers (codes "map ") (decimal to) (decimal map) (decimal from))
 
+-- bytes that are read as two numbers with nothing behind them are these with a space between, each of 32 bits
+numbers_of_found : (bytes : List ℕ) (x : ℕ × ℕ) → numbers_of bytes ≡ Some x → (bytes ≡ number_words x.0 x.1) × (x.0 < 2 ^ 32) × (x.1 < 2 ^ 32)
+unfolding numbers_of
+numbers_of_found bytes x e =
+    let h = bind_some (numbers_at bytes) (λ (numbers : (ℕ × ℕ) × List ℕ). whole numbers) x e in
+    let w = whole_found h.0 x h.2 in
+    let found = numbers_found bytes h.0 h.1 in
+    let here : bytes ≡ number_words h.0.0.0 h.0.0.1 = found.0 ∙ ap (λ (r : List ℕ). number_words h.0.0.0 h.0.0.1 ++ r) w.1 ∙ append-nil (number_words h.0.0.0 h.0.0.1) in
+    subst (λ (y : ℕ × ℕ). (bytes ≡ number_words y.0 y.1) × (y.0 < 2 ^ 32) × (y.1 < 2 ^ 32)) w.0 (here, found.1, found.2)
+
+-- bytes that are read as a register before a space are these before the rest, and it has 32 bits
+target_found : (bytes : List ℕ) (x : ℕ × List ℕ) → target_at bytes ≡ Some x → (bytes ≡ decimal x.0 ++ codes " " ++ x.1) × (x.0 < 2 ^ 32)
+unfolding target_at
+target_found bytes x e =
+    let a = bind_some (number_at bytes) (λ (to : ℕ × List ℕ). after (codes " ") to.1 >>= λ rest. Some (to.0, rest)) x e in
+    let b = bind_some (after (codes " ") a.0.1) (λ (rest : List ℕ). Some (a.0.0, rest)) x a.2 in
+    let is : (a.0.0, b.0) ≡ x = same_some (a.0.0, b.0) x b.2 in
+    let found = number_found bytes a.0 a.1 in
+    let here : bytes ≡ decimal a.0.0 ++ codes " " ++ b.0 =
+    found.0 ∙ ap (λ (r : List ℕ). decimal a.0.0 ++ r) (after_found (codes " ") a.0.1 b.0 b.1) ∙ sym (append_assoc (decimal a.0.0) (codes " ") b.0) in
+    subst (λ (y : ℕ × List ℕ). (bytes ≡ decimal y.0 ++ codes " " ++ y.1) × (y.0 < 2 ^ 32)) is (here, found.1)
+
+-- the register that is written, of 32 bits, and what stands behind it and a space, from which the instruction is read
+by_found : (f : List ℕ → Option Instr) (bytes : List ℕ) (x : ℕ × Instr) → into_by f bytes ≡ Some x → (rest : List ℕ) × (bytes ≡ decimal x.0 ++ codes " " ++ rest) × (x.0 < 2 ^ 32) × (f rest ≡ Some x.1)
+unfolding into_by
+by_found f bytes x e =
+    let a = bind_some (target_at bytes) (λ (target : ℕ × List ℕ). f target.1 >>= λ i. Some (target.0, i)) x e in
+    let b = bind_some (f a.0.1) (λ (i : Instr). Some (a.0.0, i)) x a.2 in
+    let is : (a.0.0, b.0) ≡ x = same_some (a.0.0, b.0) x b.2 in
+    let found = target_found bytes a.0 a.1 in
+    let parts : (bytes ≡ decimal x.0 ++ codes " " ++ a.0.1) × (x.0 < 2 ^ 32) × (f a.0.1 ≡ Some x.1) =
+    subst (λ (y : ℕ × Instr). (bytes ≡ decimal y.0 ++ codes " " ++ a.0.1) × (y.0 < 2 ^ 32) × (f a.0.1 ≡ Some y.1)) is (found.0, found.1, b.1) in
+    (a.0.1, parts.0, parts.1, parts.2)
+
+-- these are the words of this instruction that writes this register, and its numbers fit
+abbrev pub IsInto : List ℕ → ℕ × Instr → Type 0
+IsInto words x = (words ≡ into_words x.0 x.1) × IntoFits x.0 x.1
+
+-- a kind's word, the register and the spelling of what is read are the words of the instruction that was made of them
+into_is : (words word rest spelled last : List ℕ) (i : Instr) (x : ℕ × Instr) → words ≡ word ++ rest → rest ≡ decimal x.0 ++ codes " " ++ last → last ≡ spelled
+    → into_words x.0 i ≡ word ++ (decimal x.0 ++ codes " " ++ spelled) → x.0 < 2 ^ 32 → InstrFits i → ◌≡◌ {A = Option Instr} (Some i) (Some x.1) → IsInto words x
+into_is words word rest spelled last i x here target end made small fits e =
+    let all : words ≡ into_words x.0 i =
+    here ∙ ap (λ (r : List ℕ). word ++ r) target ∙ ap (λ (r : List ℕ). word ++ (decimal x.0 ++ codes " " ++ r)) end ∙ sym made in
+    subst (λ (j : Instr). (words ≡ into_words x.0 j) × IntoFits x.0 j) (same_some i x.1 e) (all, (small, fits))
+
+-- words that are read as an instruction that reads one register are those of that instruction
+into_number_is : (word words rest : List ℕ) (make : ℕ → Instr) (x : ℕ × Instr) → ((to n : ℕ) → into_words to (make n) ≡ word ++ (decimal to ++ codes " " ++ decimal n)) → ((n : ℕ) → n < 2 ^ 32 → InstrFits (make n))
+    → words ≡ word ++ rest → into_by (λ r. number_of r >>= λ n. Some (make n)) rest ≡ Some x → IsInto words x
+into_number_is word words rest make x made fits here e =
+    let a = by_found (λ (r : List ℕ). number_of r >>= λ n. Some (make n)) rest x e in
+    let b = bind_some (number_of a.0) (λ (n : ℕ). Some (make n)) x.1 a.3 in
+    let found = number_of_found a.0 b.0 b.1 in
+    into_is words word rest (decimal b.0) a.0 (make b.0) x here a.1 found.0 (made x.0 b.0) a.2 (fits b.0 found.1) b.2
+
+-- the same for an instruction of two numbers
+into_numbers_is : (word words rest : List ℕ) (make : ℕ → ℕ → Instr) (x : ℕ × Instr) → ((to m n : ℕ) → into_words to (make m n) ≡ word ++ (decimal to ++ codes " " ++ number_words m n))
+    → ((m n : ℕ) → m < 2 ^ 32 → n < 2 ^ 32 → InstrFits (make m n)) → words ≡ word ++ rest → into_by (λ r. numbers_of r >>= λ n. Some (make n.0 n.1)) rest ≡ Some x → IsInto words x
+into_numbers_is word words rest make x made fits here e =
+    let a = by_found (λ (r : List ℕ). numbers_of r >>= λ n. Some (make n.0 n.1)) rest x e in
+    let b = bind_some (numbers_of a.0) (λ (n : ℕ × ℕ). Some (make n.0 n.1)) x.1 a.3 in
+    let found = numbers_of_found a.0 b.0 b.1 in
+    into_is words word rest (number_words b.0.0 b.0.1) a.0 (make b.0.0 b.0.1) x here a.1 found.0 (made x.0 b.0.0 b.0.1) a.2 (fits b.0.0 b.0.1 found.1 found.2) b.2
+
+-- the same for an instruction of an element
+into_constant_is : (words rest : List ℕ) (x : ℕ × Instr) → words ≡ codes "const " ++ rest → into_by (λ r. hex_of r >>= λ value. Some (instr.Const value)) rest ≡ Some x → IsInto words x
+into_constant_is words rest x here e =
+    let a = by_found (λ (r : List ℕ). hex_of r >>= λ value. Some (instr.Const value)) rest x e in
+    let b = bind_some (hex_of a.0) (λ (value : ℕ). Some (instr.Const value)) x.1 a.3 in
+    let found = hex_of_found a.0 b.0 b.1 in
+    into_is words (codes "const ") rest (hex_byte b.0) a.0 (instr.Const b.0) x here a.1 found.0 refl a.2 found.1 b.2
+
+-- the same for a random element
+into_random_is : (words rest : List ℕ) (x : ℕ × Instr) → words ≡ codes "rnd " ++ rest → (number_of rest >>= λ to. Some (to, instr.Rnd)) ≡ Some x → IsInto words x
+into_random_is words rest x here e =
+    let a = bind_some (number_of rest) (λ (to : ℕ). Some (to, instr.Rnd)) x e in
+    let found = number_of_found rest a.0 a.1 in
+    subst (IsInto words) (same_some (a.0, instr.Rnd) x a.2) (here ∙ ap (λ (r : List ℕ). codes "rnd " ++ r) found.0, (found.1, tt))
+
+-- where no instruction was read, any words would be those of it
+no_into : (words : List ℕ) (x : ℕ × Instr) → ◌≡◌ {A = Option (ℕ × Instr)} None (Some x) → IsInto words x
+no_into words x e = absurd cc
+
+-- words that are read as a sum are those of that sum
+add_into_found : (words : List ℕ) (x : ℕ × Instr) → add_into words ≡ Some x → IsInto words x
+unfolding add_into
+add_into_found words x e = elim (behind_found (codes "add ") words _ _ x e) [
+  | inl h ↦ into_numbers_is (codes "add ") words h.0 instr.Add x (λ t m n. refl) (λ m n f g. (f, g)) h.1 h.2
+  | inr e ↦ no_into words x e
+]
+
+-- words that are read as a product or a map are those of it
+mul_or_map_into_found : (words : List ℕ) (x : ℕ × Instr) → mul_or_map_into words ≡ Some x → IsInto words x
+unfolding mul_or_map_into
+mul_or_map_into_found words x e = elim (behind_found (codes "mul ") words _ _ x e) [
+  | inl h ↦ into_numbers_is (codes "mul ") words h.0 instr.Mul x (λ t m n. refl) (λ m n f g. (f, g)) h.1 h.2
+  | inr e ↦ elim (behind_found (codes "map ") words _ _ x e) [
+    | inl h ↦ into_numbers_is (codes "map ") words h.0 instr.Map x (λ t m n. refl) (λ m n f g. (f, g)) h.1 h.2
+    | inr e ↦ no_into words x e
+  ]
+]
+
+-- words that are read as a random element are those of it
+rnd_into_found : (words : List ℕ) (x : ℕ × Instr) → rnd_into words ≡ Some x → IsInto words x
+unfolding rnd_into
+rnd_into_found words x e = elim (behind_found (codes "rnd ") words _ _ x e) [ inl h ↦ into_random_is words h.0 x h.1 h.2 | inr e ↦ no_into words x e ]
+
+-- words that are read as a constant or a copy are those of it
+const_or_copy_into_found : (words : List ℕ) (x : ℕ × Instr) → const_or_copy_into words ≡ Some x → IsInto words x
+unfolding const_or_copy_into
+const_or_copy_into_found words x e = elim (behind_found (codes "const ") words _ _ x e) [
+  | inl h ↦ into_constant_is words h.0 x h.1 h.2
+  | inr e ↦ elim (behind_found (codes "copy ") words _ _ x e) [
+    | inl h ↦ into_number_is (codes "copy ") words h.0 instr.Copy x (λ t n. refl) (λ n f. f) h.1 h.2
+    | inr e ↦ no_into words x e
+  ]
+]
+
+-- words that are read as a square are those of that square
+sq_into_found : (words : List ℕ) (x : ℕ × Instr) → sq_into words ≡ Some x → IsInto words x
+unfolding sq_into
+sq_into_found words x e = elim (behind_found (codes "sq ") words _ _ x e) [
+  | inl h ↦ into_number_is (codes "sq ") words h.0 instr.Sq x (λ t n. refl) (λ n f. f) h.1 h.2
+  | inr e ↦ no_into words x e
+]
+
+-- words that are read as an instruction that writes a register are those of both, and the numbers fit
+pub into_found : (words : List ℕ) (x : ℕ × Instr) → into_of words ≡ Some x → (words ≡ into_words x.0 x.1) × IntoFits x.0 x.1
+unfolding into_of
+into_found words x e = elim (or_found (add_into words) _ x e) [
+  | inl h ↦ add_into_found words x h
+  | inr e ↦ elim (or_found (mul_or_map_into words) _ x e) [
+    | inl h ↦ mul_or_map_into_found words x h
+    | inr e ↦ elim (or_found (rnd_into words) _ x e) [
+      | inl h ↦ rnd_into_found words x h
+      | inr e ↦ elim (or_found (const_or_copy_into words) _ x e) [ inl h ↦ const_or_copy_into_found words x h | inr h ↦ sq_into_found words x h ]
+    ]
+  ]
+]
+
 -- two numbers with a space between and nothing behind are read as those two
 numbers_of_again : (left right : ℕ) → left < 2 ^ 32 → right < 2 ^ 32 → numbers_of (number_words left right) ≡ Some (left, right)
 unfolding numbers_of whole
@@ -353,22 +493,27 @@ by_again f to i rest small read = rw (target_again to rest small, read) refl
 
 -- the words of an instruction that writes a register, whose numbers fit, are read as both
 pub into_again : (to : ℕ) (i : Instr) → IntoFits to i → into_of (into_words to i) ≡ Some (to, i)
-unfolding into_of after
+unfolding into_of add_into mul_or_map_into rnd_into const_or_copy_into sq_into after
 into_again to instr.Rnd fits = rw (number_of_again to fits.0) refl
-into_again to (instr.Const value) fits = by_again _ to (instr.Const value) (hex_byte value) fits.0 (ap (λ (o : Option ℕ). o >>= λ value. Some (instr.Const value)) (hex_of_again value fits.1))
-into_again to (instr.Copy from) fits = by_again _ to (instr.Copy from) (decimal from) fits.0 (ap (λ (o : Option ℕ). o >>= λ from. Some (instr.Copy from)) (number_of_again from fits.1))
+into_again to (instr.Const value) fits =
+    or_again _ _ (to, instr.Const value) (by_again _ to (instr.Const value) (hex_byte value) fits.0 (ap (λ (o : Option ℕ). o >>= λ value. Some (instr.Const value)) (hex_of_again value fits.1)))
+into_again to (instr.Copy from) fits =
+    or_again _ _ (to, instr.Copy from) (by_again _ to (instr.Copy from) (decimal from) fits.0 (ap (λ (o : Option ℕ). o >>= λ from. Some (instr.Copy from)) (number_of_again from fits.1)))
 into_again to (instr.Add left right) fits =
-    by_again _ to (instr.Add left right) (number_words left right) fits.0 (ap (λ (o : Option (ℕ × ℕ)). o >>= λ n. Some (instr.Add n.0 n.1)) (numbers_of_again left right fits.1.0 fits.1.1))
+    or_again _ _ (to, instr.Add left right)
+    (by_again _ to (instr.Add left right) (number_words left right) fits.0 (ap (λ (o : Option (ℕ × ℕ)). o >>= λ n. Some (instr.Add n.0 n.1)) (numbers_of_again left right fits.1.0 fits.1.1)))
 into_again to (instr.Mul left right) fits =
-    by_again _ to (instr.Mul left right) (number_words left right) fits.0 (ap (λ (o : Option (ℕ × ℕ)). o >>= λ n. Some (instr.Mul n.0 n.1)) (numbers_of_again left right fits.1.0 fits.1.1))
+    or_again _ _ (to, instr.Mul left right)
+    (by_again _ to (instr.Mul left right) (number_words left right) fits.0 (ap (λ (o : Option (ℕ × ℕ)). o >>= λ n. Some (instr.Mul n.0 n.1)) (numbers_of_again left right fits.1.0 fits.1.1)))
 into_again to (instr.Sq from) fits = by_again _ to (instr.Sq from) (decimal from) fits.0 (ap (λ (o : Option ℕ). o >>= λ from. Some (instr.Sq from)) (number_of_again from fits.1))
 into_again to (instr.Map map from) fits =
-    by_again _ to (instr.Map map from) (number_words map from) fits.0 (ap (λ (o : Option (ℕ × ℕ)). o >>= λ n. Some (instr.Map n.0 n.1)) (numbers_of_again map from fits.1.0 fits.1.1))
+    or_again _ _ (to, instr.Map map from)
+    (by_again _ to (instr.Map map from) (number_words map from) fits.0 (ap (λ (o : Option (ℕ × ℕ)). o >>= λ n. Some (instr.Map n.0 n.1)) (numbers_of_again map from fits.1.0 fits.1.1)))
 
 -- ---- the first letter
 
 -- where there is nothing else, it is this
-or_none : (o : Option (Instr × List ℕ)) → or_else o None ≡ o
+or_none : {A : Type 0} (o : Option A) → or_else o None ≡ o
 or_none (Some x) = refl
 or_none None = refl
 
@@ -406,4 +551,40 @@ letter_s bs = refl
 pub letter_other : (b : ℕ) (bs : List ℕ) → b ≢ 97 → b ≢ 109 → b ≢ 114 → b ≢ 99 → b ≢ 115 → instr_at (b ∷ bs) ≡ None
 unfolding instr_at add_at mul_or_map_at rnd_at const_or_copy_at sq_at after
 letter_other b bs a m r c s =
+    rw (ne_eqb 97 b (λ e. a (sym e)), ne_eqb 109 b (λ e. m (sym e)), ne_eqb 114 b (λ e. r (sym e)), ne_eqb 99 b (λ e. c (sym e)), ne_eqb 115 b (λ e. s (sym e))) refl
+
+-- no byte begins an instruction that writes a register
+pub into_none : (words : List ℕ) → words ≡ [] → into_of words ≡ None
+unfolding into_of add_into mul_or_map_into rnd_into const_or_copy_into sq_into after
+into_none words none = rw none refl
+
+-- an `a` begins a sum that writes one
+pub into_a : (bs : List ℕ) → into_of (97 ∷ bs) ≡ add_into (97 ∷ bs)
+unfolding into_of add_into mul_or_map_into rnd_into const_or_copy_into sq_into after
+into_a bs = or_none (add_into (97 ∷ bs))
+
+-- an `m` begins a product or a map that writes one
+pub into_m : (bs : List ℕ) → into_of (109 ∷ bs) ≡ mul_or_map_into (109 ∷ bs)
+unfolding into_of add_into mul_or_map_into rnd_into const_or_copy_into sq_into after
+into_m bs = or_none (mul_or_map_into (109 ∷ bs))
+
+-- an `r` begins a random element that is written into one
+pub into_r : (bs : List ℕ) → into_of (114 ∷ bs) ≡ rnd_into (114 ∷ bs)
+unfolding into_of add_into mul_or_map_into rnd_into const_or_copy_into sq_into after
+into_r bs = or_none (rnd_into (114 ∷ bs))
+
+-- a `c` begins a constant or a copy that writes one
+pub into_c : (bs : List ℕ) → into_of (99 ∷ bs) ≡ const_or_copy_into (99 ∷ bs)
+unfolding into_of add_into mul_or_map_into rnd_into const_or_copy_into sq_into after
+into_c bs = or_none (const_or_copy_into (99 ∷ bs))
+
+-- an `s` begins a square that writes one
+pub into_s : (bs : List ℕ) → into_of (115 ∷ bs) ≡ sq_into (115 ∷ bs)
+unfolding into_of add_into mul_or_map_into rnd_into const_or_copy_into after
+into_s bs = refl
+
+-- any other letter begins none
+pub into_other : (b : ℕ) (bs : List ℕ) → b ≢ 97 → b ≢ 109 → b ≢ 114 → b ≢ 99 → b ≢ 115 → into_of (b ∷ bs) ≡ None
+unfolding into_of add_into mul_or_map_into rnd_into const_or_copy_into sq_into after
+into_other b bs a m r c s =
     rw (ne_eqb 97 b (λ e. a (sym e)), ne_eqb 109 b (λ e. m (sym e)), ne_eqb 114 b (λ e. r (sym e)), ne_eqb 99 b (λ e. c (sym e)), ne_eqb 115 b (λ e. s (sym e))) refl

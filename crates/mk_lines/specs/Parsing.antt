@@ -243,16 +243,33 @@ into_by f bytes = do
   i ← f target.1
   Some (target.0, i)
 
+-- a sum that writes a register
+unfoldable pub add_into : List ℕ → Option (ℕ × Instr)
+add_into words = behind (after (codes "add ") words) (into_by (λ rest. numbers_of rest >>= λ n. Some (instr.Add n.0 n.1))) None
+
+-- a product or a map that writes a register
+unfoldable pub mul_or_map_into : List ℕ → Option (ℕ × Instr)
+mul_or_map_into words =
+    behind (after (codes "mul ") words) (into_by (λ rest. numbers_of rest >>= λ n. Some (instr.Mul n.0 n.1))) (
+    behind (after (codes "map ") words) (into_by (λ rest. numbers_of rest >>= λ n. Some (instr.Map n.0 n.1))) None)
+
+-- a random element that is written into a register
+unfoldable pub rnd_into : List ℕ → Option (ℕ × Instr)
+rnd_into words = behind (after (codes "rnd ") words) (λ rest. number_of rest >>= λ to. Some (to, instr.Rnd)) None
+
+-- a constant or a copy that writes a register
+unfoldable pub const_or_copy_into : List ℕ → Option (ℕ × Instr)
+const_or_copy_into words =
+    behind (after (codes "const ") words) (into_by (λ rest. hex_of rest >>= λ value. Some (instr.Const value))) (
+    behind (after (codes "copy ") words) (into_by (λ rest. number_of rest >>= λ from. Some (instr.Copy from))) None)
+
+-- a square that writes a register
+unfoldable pub sq_into : List ℕ → Option (ℕ × Instr)
+sq_into words = behind (after (codes "sq ") words) (into_by (λ rest. number_of rest >>= λ from. Some (instr.Sq from))) None
+
 -- an instruction that writes a register: its line
 unfoldable pub into_of : List ℕ → Option (ℕ × Instr)
-into_of words =
-    behind (after (codes "add ") words) (into_by (λ rest. numbers_of rest >>= λ n. Some (instr.Add n.0 n.1))) (
-    behind (after (codes "mul ") words) (into_by (λ rest. numbers_of rest >>= λ n. Some (instr.Mul n.0 n.1))) (
-    behind (after (codes "rnd ") words) (λ rest. number_of rest >>= λ to. Some (to, instr.Rnd)) (
-    behind (after (codes "const ") words) (into_by (λ rest. hex_of rest >>= λ value. Some (instr.Const value))) (
-    behind (after (codes "copy ") words) (into_by (λ rest. number_of rest >>= λ from. Some (instr.Copy from))) (
-    behind (after (codes "sq ") words) (into_by (λ rest. number_of rest >>= λ from. Some (instr.Sq from))) (
-    behind (after (codes "map ") words) (into_by (λ rest. numbers_of rest >>= λ n. Some (instr.Map n.0 n.1))) None))))))
+into_of words = or_else (add_into words) (or_else (mul_or_map_into words) (or_else (rnd_into words) (or_else (const_or_copy_into words) (sq_into words))))
 
 -- so many positions below `len`, a space before each, and nothing behind them
 unfoldable pub positions_of : ℕ → ℕ → List ℕ → Option (List ℕ)

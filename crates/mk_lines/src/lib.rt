@@ -28,7 +28,7 @@ mod words;
 pub use cutting::cut;
 pub use lines::{field_line, spell_claim, spell_instr, spell_into, spell_map, spell_op, spell_out};
 pub use parse::{
-    after, field_of, instr_at, instr_of, map_of, number_at, number_of, op_of, operand_of,
+    after, field_of, instr_at, instr_of, into_of, map_of, number_at, number_of, op_of, operand_of,
     positions_of,
 };
 pub use refusal::LineRefusal;
@@ -62,5 +62,21 @@ mod tests {
         assert_eq!(rt; line.as_str(), "const 3 0a\n");
         spell_out(&mut line, &[4, 15]);
         assert_eq!(rt; line.as_str(), "out 4 15\n");
+    }
+
+    #[test]
+    fn instructions_that_write_registers_are_read(rt: HostRuntime) {
+        let product = Instr::Mul { left: 7, right: 10 };
+        assert_eq!(rt; into_of(b"mul 3 7 10"), Some((3, product)));
+        assert_eq!(rt;
+            into_of(b"const 3 0a"),
+            Some((3, Instr::Const { value: 10 }))
+        );
+        assert_eq!(rt;
+            into_of(b"rnd 4294967295"),
+            Some((4_294_967_295, Instr::Rnd))
+        );
+        assert_eq!(rt; into_of(b"rnd 4294967296"), None);
+        assert_eq!(rt; into_of(b"sq 3 7 10"), None);
     }
 }

@@ -2,7 +2,7 @@
 
 ghost use Rattle.std.specs.Prelude.{◌≡◌, ◌≤◌, IfSome, take_while};
 ghost use Rattle.std.specs.Char.{is_ascii_digit};
-ghost use Rattle.mk_lines.specs.Parsing.{Tells, Gives, field_of, positions_of, after, leads, narrowed, digits_from, number_at, number_of, lower_hex_value, hex_at, hex_of, images_at, map_of, operand_by, operand_at, operand_of, pair_of, mapped_of, numbers_at, public_op_of, single_op_of, pair_op_of, op_of, add_at, mul_or_map_at, rnd_at, const_or_copy_at, sq_at, instr_at, instr_of};
+ghost use Rattle.mk_lines.specs.Parsing.{Tells, Gives, field_of, positions_of, after, leads, narrowed, digits_from, number_at, number_of, lower_hex_value, hex_at, hex_of, images_at, map_of, operand_by, operand_at, operand_of, pair_of, mapped_of, numbers_at, public_op_of, single_op_of, pair_op_of, op_of, add_at, mul_or_map_at, rnd_at, const_or_copy_at, sq_at, instr_at, instr_of, numbers_of, target_at, add_into, mul_or_map_into, rnd_into, const_or_copy_into, sq_into, into_of};
 
 use crate::refusal::LineRefusal;
 use mk_base::{Items, hex_value};
@@ -419,6 +419,118 @@ pub fn instr_of(words: &[u8]) -> Option<Instr>
     Some(instr)
 }
 
+/// Two numbers, a space between them, and nothing behind them.
+#[tactic(auto, unfolding(crate::specs::Parsing::numbers_of, crate::specs::Parsing::whole))]
+fn numbers_of(bytes: &[u8]) -> Option<(u32, u32)>
+    ensures { result ≡ numbers_of bytes.now }
+{
+    let (numbers, rest) = numbers_at(bytes)?;
+    if !rest.is_empty() {
+        return None;
+    }
+    Some(numbers)
+}
+
+/// The register that an instruction writes, and what stands behind it and a space.
+#[tactic(auto, unfolding(crate::specs::Parsing::target_at))]
+fn target_at(bytes: &[u8]) -> Option<(u32, &[u8])>
+    ensures { Tells (λ x. (x.0, x.1.now)) result (target_at bytes.now) }
+{
+    let (to, rest) = number_at(bytes)?;
+    let rest = after(b" ", rest)?;
+    Some((to, rest))
+}
+
+/// A sum that writes a register.
+#[tactic(auto, unfolding(crate::specs::Parsing::add_into, crate::specs::Parsing::into_by))]
+fn add_into(words: &[u8]) -> Option<(u32, Instr)>
+    ensures { result ≡ add_into words.now }
+{
+    let rest = after(b"add ", words)?;
+    let (to, rest) = target_at(rest)?;
+    let (left, right) = numbers_of(rest)?;
+    Some((to, Instr::Add { left, right }))
+}
+
+/// A product or a map that writes a register.
+#[tactic(auto, unfolding(crate::specs::Parsing::mul_or_map_into, crate::specs::Parsing::into_by))]
+fn mul_or_map_into(words: &[u8]) -> Option<(u32, Instr)>
+    ensures { result ≡ mul_or_map_into words.now }
+{
+    if let Some(rest) = after(b"mul ", words) {
+        let (to, rest) = target_at(rest)?;
+        let (left, right) = numbers_of(rest)?;
+        return Some((to, Instr::Mul { left, right }));
+    }
+    let rest = after(b"map ", words)?;
+    let (to, rest) = target_at(rest)?;
+    let (map, from) = numbers_of(rest)?;
+    Some((to, Instr::Map { map, from }))
+}
+
+/// A random element that is written into a register.
+#[tactic(auto, unfolding(crate::specs::Parsing::rnd_into))]
+fn rnd_into(words: &[u8]) -> Option<(u32, Instr)>
+    ensures { result ≡ rnd_into words.now }
+{
+    let rest = after(b"rnd ", words)?;
+    let to = number_of(rest)?;
+    Some((to, Instr::Rnd))
+}
+
+/// A constant or a copy that writes a register.
+#[tactic(auto, unfolding(crate::specs::Parsing::const_or_copy_into, crate::specs::Parsing::into_by))]
+fn const_or_copy_into(words: &[u8]) -> Option<(u32, Instr)>
+    ensures { result ≡ const_or_copy_into words.now }
+{
+    if let Some(rest) = after(b"const ", words) {
+        let (to, rest) = target_at(rest)?;
+        let value = hex_of(rest)?;
+        return Some((to, Instr::Const { value }));
+    }
+    let rest = after(b"copy ", words)?;
+    let (to, rest) = target_at(rest)?;
+    let from = number_of(rest)?;
+    Some((to, Instr::Copy { from }))
+}
+
+/// A square that writes a register.
+#[tactic(auto, unfolding(crate::specs::Parsing::sq_into, crate::specs::Parsing::into_by))]
+fn sq_into(words: &[u8]) -> Option<(u32, Instr)>
+    ensures { result ≡ sq_into words.now }
+{
+    let rest = after(b"sq ", words)?;
+    let (to, rest) = target_at(rest)?;
+    let from = number_of(rest)?;
+    Some((to, Instr::Sq { from }))
+}
+
+/// The register that an instruction writes, and the instruction, with registers as operands: its line, up to the
+/// line feed. Its first letter chooses the kind.
+pub fn into_of(words: &[u8]) -> Option<(u32, Instr)>
+    ensures { result ≡ into_of words.now }
+{
+    let [kind, ..] = words else {
+        return None;
+    };
+    if *kind == b'a' {
+        return add_into(words);
+    }
+    if *kind == b'm' {
+        return mul_or_map_into(words);
+    }
+    if *kind == b'r' {
+        return rnd_into(words);
+    }
+    if *kind == b'c' {
+        return const_or_copy_into(words);
+    }
+    if *kind == b's' {
+        return sq_into(words);
+    }
+    None
+}
+
 /// The field of its line, up to the line feed: `field gf2` or `field gf256`.
 #[tactic(auto, unfolding(crate::specs::Parsing::field_of))]
 pub fn field_of(line: &[u8]) -> Option<FieldId>
@@ -433,12 +545,12 @@ pub fn field_of(line: &[u8]) -> Option<FieldId>
     None
 }
 
-/// So many positions below `len`, a space before each and nothing behind them. Refused are other bytes, and where
-/// memory is wanted and not found.
+/// So many positions below `len`, which is 2^32 for any numbers of 32 bits, a space before each and nothing behind
+/// them. Refused are other bytes, and where memory is wanted and not found.
 pub fn positions_of(
     alloc: Global,
     count: u32,
-    len: u32,
+    len: u64,
     words: &[u8],
 ) -> Result<PositionList, LineRefusal>
     ensures { Gives result (positions_of count len words.now) }
@@ -452,7 +564,7 @@ pub fn positions_of(
         let Some((position, behind)) = number_at(word) else {
             return Err(LineRefusal::Form);
         };
-        if position >= len {
+        if u64::from(position) >= len {
             return Err(LineRefusal::Form);
         }
         positions.push(position)?;

@@ -90,10 +90,6 @@ marks-at reader last (q ∷ qs) p positive there =
     marks-at reader next qs p positive rest
     ∙ ap (λ (v : ℕ). if is_among p qs then (if nat_eq v 0 then reader else v) else v) (mark-at reader last q p there.0)
     ∙ joined (nat_eq q p) (is_among p qs) (slice_index last p) where
-      -- a number that takes the reader's place where there is none
-      filled : ℕ → ℕ
-      filled v = if nat_eq v 0 then reader else v
-
       -- a second mark by the same reader changes nothing
       twice : (v : ℕ) → (if nat_eq (if nat_eq v 0 then reader else v) 0 then reader else (if nat_eq v 0 then reader else v)) ≡ (if nat_eq v 0 then reader else v)
       twice v = elim (cases_Bool (nat_eq v 0)) [

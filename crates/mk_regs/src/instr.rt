@@ -23,8 +23,8 @@ pub enum RegInstr {
 }
 
 impl RegInstr {
-    /// The instruction that does this, with registers as operands, and writes the register `to`.
-    pub(crate) fn new(to: u32, operation: Instr) -> RegInstr
+    /// The instruction that does this, its operands being numbers of registers, and writes the register `to`.
+    pub fn new(to: u32, operation: Instr) -> RegInstr
         ensures { result ≡ into_register to operation }
     {
         match operation {

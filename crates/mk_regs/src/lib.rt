@@ -22,7 +22,7 @@ pub use code::{RegCode, RegInstrList};
 pub use instr::RegInstr;
 pub use laws::{allocation_law, renaming_law, transitions_law, width_law};
 pub use refusal::RegRefusal;
-pub use rename::rename_back;
+pub use rename::{rename_back, rename_outs};
 pub use renamer::Renamer;
 
 /// The most registers of register code.

@@ -59,8 +59,13 @@ fn rename_instrs(
     Ok(renamed)
 }
 
-/// The positions of the outs.
-fn rename_outs(alloc: Global, renamer: &Renamer, outs: &[u32]) -> Result<PositionList, RegRefusal>
+/// The positions of the entries that registers hold, to be read as outs behind the instructions so far. They are looked
+/// at one by one: `Register` comes where the first one that is refused isn't there, and `Unset` where it holds nothing.
+pub fn rename_outs(
+    alloc: Global,
+    renamer: &Renamer,
+    outs: &[u32],
+) -> Result<PositionList, RegRefusal>
     ensures renamed { IfOk result (λ positions. positions ≡ map (position_in renamer.now.held) outs.now) }
     ensures accepted { OnOk result (outs_refusal renamer.now.held renamer.now.accepted outs.now ≡ None) }
     ensures refused { IfErr result (λ e. (e ≡ RegRefusal.Memory) ⊎ (outs_refusal renamer.now.held renamer.now.accepted outs.now ≡ Some e)) }

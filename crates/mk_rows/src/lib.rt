@@ -20,16 +20,18 @@ mod texts;
 mod tests {
     use crate::outside::{CALM, Outside};
     use crate::row::{Row, holds_each, words_of};
-    use crate::texts::{ONE_TURN, REFRESHED, SBOX, SUM, SUM_BUNDLE};
+    use crate::texts::{ONE_TURN, REFRESHED, SBOX, SUM, SUM_BUNDLE, SUM_REGISTERS};
     use mk_base::{DropSink, Memory, SureSource};
     use mk_top::{Status, mask_main};
     use std::test::*;
 
     #[test]
     fn each_command_is_carried_out(rt: HostRuntime) -> Result<(), Memory> {
-        let rows: [Row; 9] = [
+        let rows: [Row; 11] = [
             Row::done(&["compile", "1"], SUM, SUM_BUNDLE),
             Row::done(&["check"], SUM_BUNDLE, "accepted\n"),
+            Row::done(&["regs"], SUM_BUNDLE, SUM_REGISTERS),
+            Row::done(&["check"], SUM_REGISTERS, "accepted\n"),
             // FIPS 197, section 5.1.1: the S-box at 53 is ed.
             Row::done(&["eval", "-", "53"], SBOX, "ed\n"),
             // The words 0 and 1 of ChaCha20's stream of zeros have the low bytes 76 and a0 (RFC 8439, appendix A.1).

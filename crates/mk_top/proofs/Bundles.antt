@@ -3,7 +3,7 @@ use Rattle.std.proofs.Common.{◌≡◌, ℕ, List, Option, Some, None, IfSome, 
 use Rattle.mk_base.specs.Streams.{ReadsAll}
 use Rattle.mk_code.specs.Listing.{Listing}
 use Rattle.mk_rules.specs.Claimed.{Claimed}
-use Rattle.mk_bundle.specs.Pairs.{IsTextOf}
+use Rattle.mk_bundle.specs.Pairs.{IsBundleOf}
 use Rattle.mk_top.specs.Bundles.{GivesText}
 
 -- what holds of the bytes that were read holds of those that were given
@@ -18,5 +18,5 @@ text-given given after bytes code cert read (read_bytes, spelled, same) =
     (read_bytes, spelled, of-given (λ (told : List ℕ). told ≡ read_bytes) given after bytes read same)
 
 -- bytes that the input tells are the text themselves
-pub text-told : (bytes : List ℕ) (code : Listing) (cert : Claimed) → GivesText (Some bytes) code cert → IsTextOf bytes code cert
-text-told bytes code cert (read_bytes, spelled, same) = subst (λ (bs : List ℕ). IsTextOf bs code cert) (sym same) spelled
+pub text-told : (bytes : List ℕ) (code : Listing) (cert : Claimed) → GivesText (Some bytes) code cert → IsBundleOf bytes code cert
+text-told bytes code cert (read_bytes, spelled, same) = subst (λ (bs : List ℕ). IsBundleOf bs code cert) (sym same) spelled

@@ -4,7 +4,7 @@ use Rattle.std.specs.Prelude.{option_map}
 use Rattle.mk_base.specs.Streams.{ReadsAll}
 use Rattle.mk_code.specs.Listing.{Listing}
 use Rattle.mk_rules.specs.Claimed.{Claimed}
-use Rattle.mk_bundle.specs.Pairs.{IsTextOf}
+use Rattle.mk_bundle.specs.Pairs.{IsBundleOf}
 use Rattle.mk_run.specs.declared.refusal.CountRefusal.{CountRefusal}
 use Rattle.mk_run.specs.declared.refusal.CountRefusal.TheVariants as count
 use Rattle.mk_run.specs.Refusals.{count_refusal}
@@ -15,7 +15,7 @@ use Rattle.mk_top.specs.Running.{NotMade}
 use Rattle.mk_top.proofs.Bundles.{text-given}
 
 -- why the tapes of the code of a bundle are not counted is why nothing is made of the bundle
-pub count_not_made : (ps first second probes bytes : List ℕ) (code : Listing) (cert : Claimed) (e : CountRefusal) → IsTextOf bytes code cert
+pub count_not_made : (ps first second probes bytes : List ℕ) (code : Listing) (cert : Claimed) (e : CountRefusal) → IsBundleOf bytes code cert
     → (e ≡ count.Memory) ⊎ (count_refusal code ps first second probes ≡ Some e) → NotMade (Count ps first second probes) bytes (fault_of_count e)
 count_not_made ps first second probes bytes code cert e is (inl wanted) =
     subst (λ (x : CountRefusal). NotMade (Count ps first second probes) bytes (fault_of_count x)) (sym wanted) tt

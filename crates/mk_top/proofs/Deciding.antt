@@ -6,14 +6,16 @@ use Rattle.mk_code.specs.Listing.{Listing}
 use Rattle.mk_rules.specs.Claimed.{Claimed}
 use Rattle.mk_check.proofs.Verdicts.{accepted-not_refused, refused-once}
 use Rattle.mk_lines.specs.Lines.{NamesFirst}
-use Rattle.mk_bundle.specs.Pairs.{IsTextOf, IsBundleText, TextsDiffer}
+use Rattle.mk_regs.specs.declared.refusal.RegRefusal.{RegRefusal}
+use Rattle.mk_regs.specs.declared.refusal.RegRefusal.TheVariants as unnamed
+use Rattle.mk_bundle.specs.Pairs.{IsBundleOf, IsBundleText, IsRefusedText, TextsReadOnce}
 use Rattle.mk_top.specs.declared.fault.Fault.{Fault}
 use Rattle.mk_top.specs.declared.fault.Fault.TheVariants as fault
 use Rattle.mk_words.specs.declared.fault.SourceFault.{SourceFault}
 use Rattle.mk_words.specs.declared.fault.SourceFault.TheVariants as source
 use Rattle.mk_words.specs.declared.fault.CheckFault.{CheckFault}
 use Rattle.mk_words.specs.declared.fault.CheckFault.TheVariants as check
-use Rattle.mk_words.specs.Words.{Command, Compile, Check, Eval, Run, Count, Report, Gen, Trial, Table, Gadget, GivenTape}
+use Rattle.mk_words.specs.Words.{Command, Compile, Check, Eval, Run, Count, Report, Gen, Trial, Table, Gadget, Regs, GivenTape}
 use Rattle.mk_parse.proofs.Refusals.{one_place, one_program}
 use Rattle.mk_unroll.specs.Causes.{Cause}
 use Rattle.mk_ast.specs.declared.tree.Program.{Program as Tree}
@@ -153,18 +155,36 @@ count-one publics first second probes code cert a b one other = one ∙ sym othe
 record Pair (decides : Listing → Claimed → Option Fault → Type 0) (bytes : List ℕ) (answer : Option Fault) : Type 0 where
   pub code : Listing
   pub cert : Claimed
-  pub spelled : IsTextOf bytes code cert
+  pub spelled : IsBundleOf bytes code cert
   pub decided : decides code cert answer
 
--- a bundle text goes wrong at a line, or is that of a pair
+-- the fault of register code that can't be renamed
+abbrev fault_of_registers : RegRefusal → Fault
+fault_of_registers (unnamed.Unset instr) = fault.Unset instr
+fault_of_registers (unnamed.Register instr) = fault.Register instr
+fault_of_registers unnamed.Memory = fault.Memory
+
+-- a bundle text goes wrong at a line, or is that of register code that can't be renamed, or of a pair
 data Bundled (decides : Listing → Claimed → Option Fault → Type 0) (bytes : List ℕ) (answer : Option Fault) : Type 0 where
   wrong : (line : ℕ) → answer ≡ Some (fault.Bundle line) → NamesFirst IsBundleText line bytes → (IsBundleText bytes → ⊥) → Bundled decides bytes answer
+  stuck : (refusal : RegRefusal) → answer ≡ Some (fault_of_registers refusal) → IsRefusedText refusal bytes → Bundled decides bytes answer
   paired : Pair decides bytes answer → Bundled decides bytes answer
 
--- what a bundle decides is one of the two
+-- what a bundle decides is one of the three
 bundled : (decides : Listing → Claimed → Option Fault → Type 0) (bytes : List ℕ) (answer : Option Fault) → BundleDecides decides bytes answer → Bundled decides bytes answer
 bundled decides bytes (Some (fault.Bundle line)) d = wrong line refl d.0 d.1
+bundled decides bytes (Some (fault.Unset instr)) d = stuck (unnamed.Unset instr) refl d
+bundled decides bytes (Some (fault.Register instr)) d = stuck (unnamed.Register instr) refl d
 bundled decides bytes answer d = paired (record { code = d.0; cert = d.1; spelled = d.2; decided = d.3 })
+
+-- the bytes of a pair are a text
+pair-text : (bytes : List ℕ) (code : Listing) (cert : Claimed) → IsBundleOf bytes code cert → IsBundleText bytes
+pair-text bytes code cert (inl is) = inl (code, cert, is)
+pair-text bytes code cert (inr is) = inr (is.0, cert, is.1)
+
+-- so are those of register code that can't be renamed
+refused-text : (bytes : List ℕ) (refusal : RegRefusal) → IsRefusedText refusal bytes → IsBundleText bytes
+refused-text bytes refusal is = inr (is.0, is.1, is.2)
 
 -- the input is too long, or its bytes within the limit decide
 within-or-long : (command : Command) (bytes : List ℕ) (answer : Option Fault) → Decides command bytes answer
@@ -172,15 +192,15 @@ within-or-long : (command : Command) (bytes : List ℕ) (answer : Option Fault) 
 within-or-long command bytes (Some (fault.TooLong limit)) d = inl (ap (λ (l : ℕ). Some (fault.TooLong l)) d.0, subst (λ (l : ℕ). l < length bytes) d.0 d.1)
 within-or-long command bytes answer d = inr d
 
-module _ (differ : TextsDiffer) where
+module _ (once : TextsReadOnce) where
   -- equal texts are those of equal pairs, which decide one answer
   pairs-one : (decides : Listing → Claimed → Option Fault → Type 0)
       → ((code : Listing) (cert : Claimed) (a b : Option Fault) → decides code cert a → decides code cert b → a ≡ b)
       → (bytes : List ℕ) (a b : Option Fault) → Pair decides bytes a → Pair decides bytes b → a ≡ b
   pairs-one decides one bytes a b first second =
-      let whole : IsTextOf (bytes ++ []) first.code first.cert =
-      subst (λ (bs : List ℕ). IsTextOf bs first.code first.cert) (sym (append-nil bytes)) first.spelled in
-      let equal = differ bytes [] first.code second.code first.cert second.cert whole second.spelled in
+      let whole : IsBundleOf (bytes ++ []) first.code first.cert =
+      subst (λ (bs : List ℕ). IsBundleOf bs first.code first.cert) (sym (append-nil bytes)) first.spelled in
+      let equal = once.pairs bytes [] first.code second.code first.cert second.cert whole second.spelled in
       one second.code second.cert a b
       (subst (λ (k : Claimed). decides second.code k a) equal.1 (subst (λ (k : Listing). decides k first.cert a) equal.0 first.decided))
       second.decided
@@ -190,8 +210,13 @@ module _ (differ : TextsDiffer) where
       → ((code : Listing) (cert : Claimed) (a b : Option Fault) → decides code cert a → decides code cert b → a ≡ b)
       → (bytes : List ℕ) (a b : Option Fault) → Bundled decides bytes a → Bundled decides bytes b → a ≡ b
   bundle-one decides one bytes a b (wrong m e names none) (wrong n f others never) = e ∙ ap (λ (l : ℕ). Some (fault.Bundle l)) (names-one IsBundleText bytes m n names others) ∙ sym f
-  bundle-one decides one bytes a b (wrong m e names none) (paired p) = absurd (none (p.code, p.cert, p.spelled))
-  bundle-one decides one bytes a b (paired p) (wrong n f others never) = absurd (never (p.code, p.cert, p.spelled))
+  bundle-one decides one bytes a b (wrong m e names none) (stuck r f is) = absurd (none (refused-text bytes r is))
+  bundle-one decides one bytes a b (wrong m e names none) (paired p) = absurd (none (pair-text bytes p.code p.cert p.spelled))
+  bundle-one decides one bytes a b (stuck r e is) (wrong n f others never) = absurd (never (refused-text bytes r is))
+  bundle-one decides one bytes a b (stuck r e is) (stuck s f are) = e ∙ ap (λ (x : RegRefusal). Some (fault_of_registers x)) (once.reasons bytes r s is are) ∙ sym f
+  bundle-one decides one bytes a b (stuck r e is) (paired p) = absurd (once.refused bytes r p.code p.cert is p.spelled)
+  bundle-one decides one bytes a b (paired p) (wrong n f others never) = absurd (never (pair-text bytes p.code p.cert p.spelled))
+  bundle-one decides one bytes a b (paired p) (stuck s f are) = absurd (once.refused bytes s p.code p.cert are p.spelled)
   bundle-one decides one bytes a b (paired p) (paired q) = pairs-one decides one bytes a b p q
 
   -- the text that a command reads decides one answer
@@ -211,6 +236,7 @@ module _ (differ : TextsDiffer) where
   text-one (Trial turns order) bytes a b first second = trial-one turns order a b first second
   text-one Table bytes a b first second = table-one bytes a b first second
   text-one Gadget bytes a b first second = gadget-one bytes a b first second
+  text-one Regs bytes a b first second = bundle-one PairDecides pair-one bytes a b (bundled PairDecides bytes a first) (bundled PairDecides bytes b second)
 
   -- the input of a command decides one answer
   pub decides-one : (command : Command) (bytes : List ℕ) (a b : Option Fault) → Decides command bytes a → Decides command bytes b → a ≡ b

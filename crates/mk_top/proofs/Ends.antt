@@ -5,14 +5,15 @@ use Rattle.mk_base.specs.Outside.{Rose}
 use Rattle.mk_base.specs.Streams.{ReadsAll}
 use Rattle.mk_rules.specs.declared.cert.Bundle.{Bundle}
 use Rattle.mk_rules.specs.Pairs.{IsPair}
-use Rattle.mk_bundle.specs.Text.{text}
-use Rattle.mk_bundle.specs.Pairs.{TextsDiffer}
+use Rattle.mk_bundle.specs.Text.{text, register_text}
+use Rattle.mk_bundle.specs.Pairs.{IsRegisterPair, TextsReadOnce}
 use Rattle.mk_words.specs.declared.status.Status.TheVariants as status
 use Rattle.mk_top.specs.declared.answer.Answer.{Answer}
+use Rattle.mk_top.specs.declared.answer.RegisterBundle.{RegisterBundle}
 use Rattle.mk_top.specs.declared.answer.Answer.TheVariants as answer
 use Rattle.mk_top.specs.declared.fault.Fault.{Fault}
 use Rattle.mk_top.specs.declared.fault.Fault.TheVariants as fault_
-use Rattle.mk_words.specs.Words.{Command, Compile, Check, Eval, Run, Count, Report, Gen, Trial, Table, Gadget, GivenTape, Seed, Tape, SaysElements, SaysTape, SaysProbes, Asks}
+use Rattle.mk_words.specs.Words.{Command, Compile, Check, Eval, Run, Count, Report, Gen, Trial, Table, Gadget, Regs, GivenTape, Seed, Tape, SaysElements, SaysTape, SaysProbes, Asks}
 use Rattle.mk_words.specs.Forms.{AreElements, IsTapeForm, SaysTapeSo, AsksSo}
 use Rattle.mk_top.specs.Forms.{OfElements, OfRun, OfCount, IsGivenBy}
 use Rattle.mk_words.specs.declared.command.Form.{Form}
@@ -48,6 +49,9 @@ makes-decides words Report bytes written asks makes within = (within, (makes.cod
 makes-decides words (Gen turns) bytes written asks makes within = (within, refl)
 makes-decides words (Trial turns order) bytes written asks makes within = (within, tries-decides turns order written asks.3.1 asks.3.2 makes)
 makes-decides words Table bytes written asks makes within = (within, ap (λ (bs : List ℕ). length bs) (sym makes.taken) ∙ makes.whole)
+makes-decides words Regs bytes written asks makes within =
+    let c = makes.checked in
+    (within, (c.code, c.cert, text-told bytes c.code c.cert c.bundle, c.accepted))
 makes-decides words Gadget bytes written asks makes within = (within, (makes.gadget, makes.text, (makes.few_sets, makes.few_terms)))
 
 module _ (words : List (List ℕ)) (input output : Seen) where
@@ -108,6 +112,10 @@ stopped-because command input output (fault_.Check why) s =
     within-decides command input (λ bs. TextDecides command bs (Some (fault_.Check why))) s.1 s.0
 stopped-because command input output (fault_.Bundle line) s =
     within-decides command input (λ bs. TextDecides command bs (Some (fault_.Bundle line))) s.1 s.0
+stopped-because command input output (fault_.Unset instr) s =
+    within-decides command input (λ bs. TextDecides command bs (Some (fault_.Unset instr))) s.1 s.0
+stopped-because command input output (fault_.Register instr) s =
+    within-decides command input (λ bs. TextDecides command bs (Some (fault_.Register instr))) s.1 s.0
 stopped-because command input output (fault_.Tapes elements) s =
     within-decides command input (λ bs. TextDecides command bs (Some (fault_.Tapes elements))) s.1 s.0
 stopped-because command input output (fault_.Gadget line) s =
@@ -129,6 +137,8 @@ stopped-answer command input output (fault_.Source why) s = s.2
 stopped-answer command input output (fault_.Inputs why) s = s.2
 stopped-answer command input output (fault_.Check why) s = s.2
 stopped-answer command input output (fault_.Bundle line) s = s.2
+stopped-answer command input output (fault_.Unset instr) s = s.2
+stopped-answer command input output (fault_.Register instr) s = s.2
 stopped-answer command input output fault_.ReadFault s = s.0
 stopped-answer command input output fault_.WriteFault s = tt
 stopped-answer command input output fault_.Memory s = tt
@@ -147,6 +157,8 @@ stopped-cut command input output (fault_.Source why) s is = absurd cc
 stopped-cut command input output (fault_.Inputs why) s is = absurd cc
 stopped-cut command input output (fault_.Check why) s is = absurd cc
 stopped-cut command input output (fault_.Bundle line) s is = absurd cc
+stopped-cut command input output (fault_.Unset instr) s is = absurd cc
+stopped-cut command input output (fault_.Register instr) s is = absurd cc
 stopped-cut command input output fault_.ReadFault s is = absurd cc
 stopped-cut command input output fault_.WriteFault s is = (s.written, s.made.makes, s.some)
 stopped-cut command input output fault_.Memory s is = absurd cc
@@ -164,6 +176,8 @@ stopped-read command input output (fault_.Source why) s ends = s.1
 stopped-read command input output (fault_.Inputs why) s ends = s.1
 stopped-read command input output (fault_.Check why) s ends = s.1
 stopped-read command input output (fault_.Bundle line) s ends = s.1
+stopped-read command input output (fault_.Unset instr) s ends = s.1
+stopped-read command input output (fault_.Register instr) s ends = s.1
 stopped-read command input output (fault_.Gadget line) s ends = s.1
 stopped-read command input output (fault_.Sets sets) s ends = s.1
 stopped-read command input output (fault_.Terms terms) s ends = s.1
@@ -189,6 +203,13 @@ pub bundle-answered : (words : List (List ℕ)) (command : Command) (input : See
     → IfOk given (IsMade words input)
 bundle-answered words command input (Ok b) given is asks made pair = subst (λ (g : Result Answer Fault). IfOk g (IsMade words input)) (sym is) (command, asks, made, pair)
 bundle-answered words command input (Err fault) given is asks made pair = subst (λ (g : Result Answer Fault). IfOk g (IsMade words input)) (sym is) tt
+
+-- the same of register code and a certificate that are a pair
+pub registers-answered : (words : List (List ℕ)) (command : Command) (input : Seen) (r : Result RegisterBundle Fault) (given : Result Answer Fault)
+    → given ≡ answered answer.Registers r → Asks words command → IfOk r (λ made. Made command input (register_text made.code made.cert))
+    → IfOk r (λ made. IsRegisterPair made.code made.cert) → IfOk given (IsMade words input)
+registers-answered words command input (Ok b) given is asks made pair = subst (λ (g : Result Answer Fault). IfOk g (IsMade words input)) (sym is) (command, asks, made, pair)
+registers-answered words command input (Err fault) given is asks made pair = subst (λ (g : Result Answer Fault). IfOk g (IsMade words input)) (sym is) tt
 
 -- a fault stays
 pub fault-answered : {X : Type 0} (form : X → Answer) (P : Fault → Type 0) (r : Result X Fault) (given : Result Answer Fault)
@@ -401,6 +422,7 @@ asked-leaves words (form.Gen turns) left asks leaves = inr (Gen turns, asks, inr
 asked-leaves words (form.Trial turns order) left asks leaves = inr (Trial turns order, asks, inr leaves)
 asked-leaves words form.Table left asks leaves = inr (Table, asks, inl tt)
 asked-leaves words form.Gadget left asks leaves = inr (Gadget, asks, inl tt)
+asked-leaves words form.Regs left asks leaves = inr (Regs, asks, inl tt)
 
 -- a command that reads nothing left its input
 pub left-unread : (words : List (List ℕ)) (command : Command) (left : Type 0) → ReadsOrLeaves words left → Asks words command → (Reads command → ⊥) → left
@@ -408,11 +430,11 @@ left-unread words command left (inl none) asks unread = absurd (none command ask
 left-unread words command left (inr (other, asked, inl reads)) asks unread = absurd (unread (subst Reads (asks-one words other command asked asks) reads))
 left-unread words command left (inr (other, asked, inr leaves)) asks unread = leaves
 
-module _ (differ : TextsDiffer) where
+module _ (once : TextsReadOnce) where
   -- a fault other than want of memory is the one that the bytes decide
   decided-fault : (command : Command) (bytes : List ℕ) (fault : Fault) (answer : Option Fault) → Decides command bytes (Some fault) → Decides command bytes answer
       → IsOrMemory (status_of fault) (answer_status answer)
-  decided-fault command bytes fault answer stopped decides = inl (ap answer_status (decides-one differ command bytes (Some fault) answer stopped decides))
+  decided-fault command bytes fault answer stopped decides = inl (ap answer_status (decides-one once command bytes (Some fault) answer stopped decides))
 
   -- the same of a fault of the text, which was read to its end
   decided-text : (command : Command) (bytes : List ℕ) (input : Seen) (fault : Fault) (answer : Option Fault) → input_of command input.before ≡ Some bytes
@@ -439,9 +461,11 @@ module _ (differ : TextsDiffer) where
       go bytes is (fault_.Inputs why) s decides = decided-text command bytes input (fault_.Inputs why) answer is s.0 s.1 (λ d. d) decides
       go bytes is (fault_.Check why) s decides = decided-text command bytes input (fault_.Check why) answer is s.0 s.1 (λ d. d) decides
       go bytes is (fault_.Bundle line) s decides = decided-text command bytes input (fault_.Bundle line) answer is s.0 s.1 (λ d. d) decides
+      go bytes is (fault_.Unset instr) s decides = decided-text command bytes input (fault_.Unset instr) answer is s.0 s.1 (λ d. d) decides
+      go bytes is (fault_.Register instr) s decides = decided-text command bytes input (fault_.Register instr) answer is s.0 s.1 (λ d. d) decides
       go bytes is fault_.ReadFault s decides = absurd (calm s.1)
       go bytes is fault_.WriteFault s decides =
-          absurd (still (decides-one differ command bytes answer None decides (made-decides words command input s.written bytes is asks s.made)) s.rose)
+          absurd (still (decides-one once command bytes answer None decides (made-decides words command input s.written bytes is asks s.made)) s.rose)
       go bytes is fault_.Memory s decides = inr refl
       go bytes is (fault_.Tapes elements) s decides = decided-text command bytes input (fault_.Tapes elements) answer is s.0 s.1 (λ d. d) decides
       go bytes is (fault_.Gadget line) s decides = decided-text command bytes input (fault_.Gadget line) answer is s.0 s.1 (λ d. d) decides
@@ -457,4 +481,4 @@ module _ (differ : TextsDiffer) where
       → IfSome (input_of command input.before) (λ bytes. Decides command bytes answer → IsOrMemory status.Done (answer_status answer))
   finished-decided words command input output answer f asks =
       on-some (input_of command input.before)
-      (λ bytes is decides. inl (ap answer_status (decides-one differ command bytes None answer (made-decides words command input f.written bytes is asks f.made) decides)))
+      (λ bytes is decides. inl (ap answer_status (decides-one once command bytes None answer (made-decides words command input f.written bytes is asks f.made) decides)))

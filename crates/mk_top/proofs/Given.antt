@@ -7,13 +7,15 @@ use Rattle.mk_base.specs.Outside.{Rose}
 use Rattle.mk_base.specs.Streams.{ReadsAll, CameWithin}
 use Rattle.mk_top.specs.declared.fault.Fault.{Fault}
 use Rattle.mk_top.specs.declared.fault.Fault.TheVariants as fault_
-use Rattle.mk_words.specs.Words.{Command, Compile, Check, Eval, Run, Count, Report, Gen, Trial, Table, Gadget, GivenTape}
+use Rattle.mk_words.specs.Words.{Command, Compile, Check, Eval, Run, Count, Report, Gen, Trial, Table, Gadget, Regs, GivenTape}
 use Rattle.mk_code.specs.Listing.{Listing}
 use Rattle.mk_code.specs.Private.{Private}
 use Rattle.mk_rules.specs.Claimed.{Claimed}
 use Rattle.mk_bundle.specs.declared.TheConstants.{MOST_BYTES}
-use Rattle.mk_bundle.specs.Pairs.{IsTextOf, IsBundleText}
-use Rattle.mk_bundle.specs.Text.{text}
+use Rattle.mk_regs.specs.declared.refusal.RegRefusal.TheVariants as unnamed
+use Rattle.mk_regs.specs.Form.{RegListing}
+use Rattle.mk_bundle.specs.Pairs.{IsTextOf, IsBundleOf, IsRegisterTextOf, IsBundleText, IsRefusedText}
+use Rattle.mk_bundle.specs.Text.{text, register_text}
 use Rattle.mk_bundle.specs.Taking.{Comes}
 use Rattle.mk_bundle.specs.Reads.{Collected, Denies}
 use Rattle.mk_bundle.specs.declared.refusal.StreamRefusal.{StreamRefusal}
@@ -27,7 +29,7 @@ use Rattle.mk_place.specs.Different.{AllDifferButRefreshes}
 use Rattle.mk_compile.specs.Compiled.{IsWithin, IsCertified}
 use Rattle.mk_compile.specs.Correct.{Correct}
 use Rattle.mk_top.specs.Decided.{limit_of, TextDecides}
-use Rattle.mk_top.specs.Headline.{CompilesSo, Checks, Evaluates, Makes}
+use Rattle.mk_top.specs.Headline.{CompilesSo, Checks, Allocates, Evaluates, Makes}
 use Rattle.mk_top.specs.Because.{ReadWhole, Reads, IsAnswerOf, input_of}
 use Rattle.mk_top.specs.Sources.{IsSourceOf}
 use Rattle.mk_eval.specs.declared.refusal.EvalRefusal.{EvalRefusal}
@@ -46,6 +48,8 @@ use Rattle.mk_top.specs.Runs.{Runs, tape_of, run_text}
 use Rattle.mk_top.specs.Faults.{fault_of_bundle, fault_of_source, status_of, fault_of_eval, fault_of_run, fault_of_count}
 use Rattle.mk_top.specs.Seen.{Seen}
 use Rattle.mk_top.specs.Running.{NotMade, Made, NoText, NoBundle, TakesBundle}
+use Rattle.mk_top.specs.declared.answer.RegisterBundle.{RegisterBundle}
+use Rattle.mk_top.specs.Bundles.{IsPrivateInRegisters}
 use Rattle.mk_top.proofs.Bundles.{of-given, text-given}
 use Rattle.mk_top.proofs.Counted.{counts-given}
 use Rattle.mk_top.proofs.Reported.{reports-given}
@@ -87,13 +91,28 @@ evaluates-given given after bytes written ps ss read c = record {
 }
 
 -- the bundle that was read is the one that was given
-checks-given : (given after : Option (List ℕ)) (bytes : List ℕ) → IfSome given (λ rest. ReadsAll rest bytes after) → Checks (Some bytes) → Checks given
+pub checks-given : (given after : Option (List ℕ)) (bytes : List ℕ) → IfSome given (λ rest. ReadsAll rest bytes after) → Checks (Some bytes) → Checks given
 checks-given given after bytes read c = record {
   code = c.code;
   cert = c.cert;
   bundle = text-given given after bytes c.code c.cert read c.bundle;
   accepted = c.accepted;
   private = c.private;
+  registers =
+      of-given (λ (bs : List ℕ). (r : RegListing) (cert : Claimed) → IsRegisterTextOf bs r cert → IsPrivateInRegisters r) given after bytes read c.registers;
+}
+
+-- the same of a bundle whose code was allocated
+allocates-given : (given after : Option (List ℕ)) (bytes written : List ℕ) → IfSome given (λ rest. ReadsAll rest bytes after) → Allocates (Some bytes) written
+    → Allocates given written
+unfolding checks-given
+allocates-given given after bytes written read c = record {
+  checked = checks-given given after bytes read c.checked;
+  allocated = c.allocated;
+  allocation = c.allocation;
+  text = c.text;
+  private = c.private;
+  checks = c.checks;
 }
 
 -- the same of a bundle that was run
@@ -126,6 +145,7 @@ makes-given (Gen turns) given after bytes written read makes = makes
 makes-given (Trial turns order) given after bytes written read makes = makes
 makes-given Table given after bytes written read makes = tabulates-given given after bytes written read makes
 makes-given Gadget given after bytes written read makes = judges-given given after bytes written read makes
+makes-given Regs given after bytes written read makes = allocates-given given after bytes written read makes
 
 -- so the text that is made of what was read is the command's
 pub made-given : (command : Command) (input : Seen) (bytes : List ℕ) (r : Result (List ℕ) Fault)
@@ -186,15 +206,23 @@ answer-of (Compile order) bytes (fault_.Inputs why) decides = absurd decides.3
 answer-of (Compile order) bytes f decides = absurd decides.3
 answer-of Check bytes (fault_.Check why) decides = tt
 answer-of Check bytes (fault_.Bundle line) decides = tt
+answer-of Check bytes (fault_.Unset instr) decides = tt
+answer-of Check bytes (fault_.Register instr) decides = tt
 answer-of Check bytes f decides = absurd decides.3
 answer-of (Eval ps ss) bytes (fault_.Source why) decides = tt
 answer-of (Eval ps ss) bytes f decides = answer-of-eval ps ss (refusal decides.0 ps ss) f decides.3
 answer-of (Run ps ss tape) bytes (fault_.Bundle line) decides = tt
+answer-of (Run ps ss tape) bytes (fault_.Unset instr) decides = tt
+answer-of (Run ps ss tape) bytes (fault_.Register instr) decides = tt
 answer-of (Run ps ss tape) bytes f decides = answer-of-run ps ss tape (whole_refusal decides.0 ps ss (tape_of decides.0 tape)) f decides.3
 answer-of (Count ps one two qs) bytes (fault_.Bundle line) decides = tt
+answer-of (Count ps one two qs) bytes (fault_.Unset instr) decides = tt
+answer-of (Count ps one two qs) bytes (fault_.Register instr) decides = tt
 answer-of (Count ps one two qs) bytes f decides = answer-of-count ps one two qs (count_refusal decides.0 ps one two qs) f decides.3
 answer-of Report bytes (fault_.Check why) decides = tt
 answer-of Report bytes (fault_.Bundle line) decides = tt
+answer-of Report bytes (fault_.Unset instr) decides = tt
+answer-of Report bytes (fault_.Register instr) decides = tt
 answer-of Report bytes f decides = absurd decides.3
 answer-of (Gen turns) bytes f decides = absurd cc
 answer-of (Trial turns order) bytes (fault_.Source why) decides = tt
@@ -205,6 +233,11 @@ answer-of Gadget bytes (fault_.Gadget line) decides = tt
 answer-of Gadget bytes (fault_.Sets sets) decides = tt
 answer-of Gadget bytes (fault_.Terms terms) decides = tt
 answer-of Gadget bytes f decides = absurd decides.2
+answer-of Regs bytes (fault_.Check why) decides = tt
+answer-of Regs bytes (fault_.Bundle line) decides = tt
+answer-of Regs bytes (fault_.Unset instr) decides = tt
+answer-of Regs bytes (fault_.Register instr) decides = tt
+answer-of Regs bytes f decides = absurd decides.3
 
 -- a fault that the bytes of the text decide, said of the input
 text-decides : (command : Command) (input : Seen) (bytes : List ℕ) (fault : Fault)
@@ -228,6 +261,8 @@ not_made-given command input bytes (fault_.Source w) within read why = text-deci
 not_made-given command input bytes (fault_.Inputs w) within read why = text-decides command input bytes (fault_.Inputs w) within read why
 not_made-given command input bytes (fault_.Check w) within read why = text-decides command input bytes (fault_.Check w) within read why
 not_made-given command input bytes (fault_.Bundle line) within read why = text-decides command input bytes (fault_.Bundle line) within read why
+not_made-given command input bytes (fault_.Unset instr) within read why = text-decides command input bytes (fault_.Unset instr) within read why
+not_made-given command input bytes (fault_.Register instr) within read why = text-decides command input bytes (fault_.Register instr) within read why
 not_made-given command input bytes fault_.ReadFault within read why = absurd why
 not_made-given command input bytes fault_.WriteFault within read why = why
 not_made-given command input bytes fault_.Memory within read why = tt
@@ -269,7 +304,7 @@ eval_not_made ps ss bytes tree e is (inr why) = by e why
     by eval.Memory h = tt
 
 -- why the run of the code of a bundle is refused is why nothing is made of the bundle
-pub run_not_made : (ps ss : List ℕ) (tape : GivenTape) (bytes : List ℕ) (code : Listing) (cert : Claimed) (e : RunRefusal) → IsTextOf bytes code cert
+pub run_not_made : (ps ss : List ℕ) (tape : GivenTape) (bytes : List ℕ) (code : Listing) (cert : Claimed) (e : RunRefusal) → IsBundleOf bytes code cert
     → (e ≡ run.Memory) ⊎ (whole_refusal code ps ss (tape_of code tape) ≡ Some e) → NotMade (Run ps ss tape) bytes (fault_of_run e)
 run_not_made ps ss tape bytes code cert e is (inl wanted) = subst (λ (x : RunRefusal). NotMade (Run ps ss tape) bytes (fault_of_run x)) (sym wanted) tt
 run_not_made ps ss tape bytes code cert e is (inr why) = by e why
@@ -281,7 +316,7 @@ run_not_made ps ss tape bytes code cert e is (inr why) = by e why
     by run.Memory h = tt
 
 -- the lines of a run of a bundle are those that it promises
-pub runs-made : (ps ss : List ℕ) (tape : GivenTape) (bytes written : List ℕ) (code : Listing) (cert : Claimed) → IsTextOf bytes code cert
+pub runs-made : (ps ss : List ℕ) (tape : GivenTape) (bytes written : List ℕ) (code : Listing) (cert : Claimed) → IsBundleOf bytes code cert
     → whole_refusal code ps ss (tape_of code tape) ≡ None → written ≡ run_text code (masked_trace code ps ss (tape_of code tape)) → Runs ps ss tape (Some bytes) written
 runs-made ps ss tape bytes written code cert is taken lines = record {
   code = code;
@@ -307,7 +342,7 @@ compiles-made order bytes written tree code cert source within correct maps priv
     correct = correct;
     private = private;
     accepted = accepted;
-    checks = (subst (λ (bs : List ℕ). length bs ≤ MOST_BYTES) (sym spelled.1) (short-text code cert spelled.0), (code, cert, spelled, accepted));
+    checks = (subst (λ (bs : List ℕ). length bs ≤ MOST_BYTES) (sym spelled.1) (short-text code cert spelled.0), (code, cert, inl spelled, accepted));
   },
   record { certified = certified; different = different; maps = maps },
 )
@@ -338,13 +373,24 @@ came-long : (before after : Option (List ℕ)) (came : List ℕ) (limit : ℕ) �
 came-long None after came limit many comes = tt
 came-long (Some rest) after came limit many comes = omega (arith, ap length comes.1 ∙ length-append came comes.0, many)
 
+-- what came up to the end is all that a command that reads its input was given
+came-read : (command : Command) (input : Seen) (came : List ℕ) → Comes came input.before input.after → IfSome input.before (λ rest. input.after ≡ Some [])
+    → input_of command input.before ≡ input.before → input_of command input.after ≡ input.after
+    → IfSome (input_of command input.before) (λ rest. ReadsAll rest came (input_of command input.after))
+came-read command input came comes end before after =
+    subst (λ (o : Option (List ℕ)). IfSome o (λ rest. ReadsAll rest came (input_of command input.after))) (sym before)
+    (subst (λ (o : Option (List ℕ)). IfSome input.before (λ rest. ReadsAll rest came o)) (sym after)
+    (came-whole input.before input.after came comes end))
+
 -- why no bundle was read, by the refusal
 denied : (command : Command) (input : Seen) (why : StreamRefusal) → (why ≡ refusals.Fault → Rose input.faults input.faults_after)
     → Denies why MOST_BYTES [] input.before input.after → Reads command → limit_of command ≡ MOST_BYTES
     → input_of command input.before ≡ input.before → input_of command input.after ≡ input.after
     → ((line : ℕ) (bytes : List ℕ) → (IsBundleText bytes → ⊥) → NamesFirst IsBundleText line bytes → TextDecides command bytes (Some (fault_.Bundle line)))
+    → ((instr : ℕ) (bytes : List ℕ) → IsRefusedText (unnamed.Unset instr) bytes → TextDecides command bytes (Some (fault_.Unset instr)))
+    → ((instr : ℕ) (bytes : List ℕ) → IsRefusedText (unnamed.Register instr) bytes → TextDecides command bytes (Some (fault_.Register instr)))
     → NoText command input (fault_of_bundle why)
-denied command input refusals.Fault rose denies reads limit before after decides = (
+denied command input refusals.Fault rose denies reads limit before after decides unset register = (
   reads,
   rose refl,
   subst (λ (o : Option (List ℕ)). IfSome o (λ bytes. CameWithin (limit_of command) bytes (input_of command input.after))) (sym before)
@@ -352,28 +398,32 @@ denied command input refusals.Fault rose denies reads limit before after decides
       (subst (λ (n : ℕ). IfSome input.before (λ bytes. CameWithin n bytes input.after)) (sym limit)
       (came-within input.before input.after denies.came MOST_BYTES denies.few denies.comes))),
 )
-denied command input refusals.TooLong rose denies reads limit before after decides = (
+denied command input refusals.TooLong rose denies reads limit before after decides unset register = (
   reads,
   sym limit,
   subst (λ (o : Option (List ℕ)). IfSome o (λ bytes. limit_of command < length bytes)) (sym before)
       (subst (λ (n : ℕ). IfSome input.before (λ bytes. n < length bytes)) (sym limit)
       (came-long input.before input.after denies.came MOST_BYTES denies.many denies.comes)),
 )
-denied command input (refusals.Form line) rose denies reads limit before after decides =
+denied command input (refusals.Form line) rose denies reads limit before after decides unset register =
     text-decides command input denies.came (fault_.Bundle line) (subst (λ (n : ℕ). length denies.came ≤ n) (sym limit) denies.within)
-    (subst (λ (o : Option (List ℕ)). IfSome o (λ rest. ReadsAll rest denies.came (input_of command input.after))) (sym before)
-    (subst (λ (o : Option (List ℕ)). IfSome input.before (λ rest. ReadsAll rest denies.came o)) (sym after)
-    (came-whole input.before input.after denies.came denies.comes denies.end)))
-    (decides line denies.came denies.only denies.first)
-denied command input refusals.Memory rose denies reads limit before after decides = tt
+    (came-read command input denies.came denies.comes denies.end before after) (decides line denies.came denies.only denies.first)
+denied command input (refusals.Unset instr) rose denies reads limit before after decides unset register =
+    text-decides command input denies.came (fault_.Unset instr) (subst (λ (n : ℕ). length denies.came ≤ n) (sym limit) denies.within)
+    (came-read command input denies.came denies.comes denies.end before after) (unset instr denies.came denies.text)
+denied command input (refusals.Register instr) rose denies reads limit before after decides unset register =
+    text-decides command input denies.came (fault_.Register instr) (subst (λ (n : ℕ). length denies.came ≤ n) (sym limit) denies.within)
+    (came-read command input denies.came denies.comes denies.end before after) (register instr denies.came denies.text)
+denied command input refusals.Memory rose denies reads limit before after decides unset register = tt
 
 -- the same for each command that reads a bundle
 pub no_bundle : (input : Seen) (why : StreamRefusal) → (why ≡ refusals.Fault → Rose input.faults input.faults_after)
     → Denies why MOST_BYTES [] input.before input.after → NoBundle input (fault_of_bundle why)
-no_bundle input why rose denies Check takes = denied Check input why rose denies tt refl refl refl (λ line bytes only first. (first, only))
-no_bundle input why rose denies (Run ps ss tape) takes = denied (Run ps ss tape) input why rose denies tt refl refl refl (λ line bytes only first. (first, only))
-no_bundle input why rose denies (Count ps one two qs) takes = denied (Count ps one two qs) input why rose denies tt refl refl refl (λ line bytes only first. (first, only))
-no_bundle input why rose denies Report takes = denied Report input why rose denies tt refl refl refl (λ line bytes only first. (first, only))
+no_bundle input why rose denies Check takes = denied Check input why rose denies tt refl refl refl (λ line bytes only first. (first, only)) (λ instr bytes is. is) (λ instr bytes is. is)
+no_bundle input why rose denies (Run ps ss tape) takes = denied (Run ps ss tape) input why rose denies tt refl refl refl (λ line bytes only first. (first, only)) (λ instr bytes is. is) (λ instr bytes is. is)
+no_bundle input why rose denies (Count ps one two qs) takes = denied (Count ps one two qs) input why rose denies tt refl refl refl (λ line bytes only first. (first, only)) (λ instr bytes is. is) (λ instr bytes is. is)
+no_bundle input why rose denies Report takes = denied Report input why rose denies tt refl refl refl (λ line bytes only first. (first, only)) (λ instr bytes is. is) (λ instr bytes is. is)
+no_bundle input why rose denies Regs takes = denied Regs input why rose denies tt refl refl refl (λ line bytes only first. (first, only)) (λ instr bytes is. is) (λ instr bytes is. is)
 no_bundle input why rose denies (Compile order) takes = absurd takes
 no_bundle input why rose denies (Eval ps ss) takes = absurd takes
 no_bundle input why rose denies (Gen turns) takes = absurd takes
@@ -384,7 +434,7 @@ no_bundle input why rose denies Gadget takes = absurd takes
 -- what a command makes of the text of a bundle that was read to its end
 pub made-collected : (command : Command) (input : Seen) (bundle : Bundle) (r : Result (List ℕ) Fault) → TakesBundle command
     → Collected bundle MOST_BYTES input.before input.after
-    → ((bytes : List ℕ) → IsTextOf bytes bundle.code bundle.cert → IfOk r (Makes command (Some bytes))) → IfOk r (Made command input)
+    → ((bytes : List ℕ) → IsBundleOf bytes bundle.code bundle.cert → IfOk r (Makes command (Some bytes))) → IfOk r (Made command input)
 made-collected Check input bundle r takes read makes =
     made-given Check input read.came r read.within (came-whole input.before input.after read.came read.comes read.end) (makes read.came read.text)
 made-collected (Run ps ss tape) input bundle r takes read makes =
@@ -393,6 +443,8 @@ made-collected (Count ps one two qs) input bundle r takes read makes =
     made-given (Count ps one two qs) input read.came r read.within (came-whole input.before input.after read.came read.comes read.end) (makes read.came read.text)
 made-collected Report input bundle r takes read makes =
     made-given Report input read.came r read.within (came-whole input.before input.after read.came read.comes read.end) (makes read.came read.text)
+made-collected Regs input bundle r takes read makes =
+    made-given Regs input read.came r read.within (came-whole input.before input.after read.came read.comes read.end) (makes read.came read.text)
 made-collected (Compile order) input bundle r takes read makes = absurd takes
 made-collected (Eval ps ss) input bundle r takes read makes = absurd takes
 made-collected (Gen turns) input bundle r takes read makes = absurd takes
@@ -400,10 +452,18 @@ made-collected (Trial turns order) input bundle r takes read makes = absurd take
 made-collected Table input bundle r takes read makes = absurd takes
 made-collected Gadget input bundle r takes read makes = absurd takes
 
+-- the same of register code and its certificate
+pub registers-collected : (input : Seen) (bundle : Bundle) (r : Result RegisterBundle Fault) → Collected bundle MOST_BYTES input.before input.after
+    → ((bytes : List ℕ) → IsBundleOf bytes bundle.code bundle.cert → IfOk r (λ made. Allocates (Some bytes) (register_text made.code made.cert)))
+    → IfOk r (λ made. Made Regs input (register_text made.code made.cert))
+registers-collected input bundle (Ok made) read makes =
+    made-collected Regs input bundle (Ok (register_text made.code made.cert)) tt read makes
+registers-collected input bundle (Err fault) read makes = tt
+
 -- and why it makes nothing of it
 pub no_text-collected : {X : Type 0} (command : Command) (input : Seen) (bundle : Bundle) (r : Result X Fault) → TakesBundle command
     → Collected bundle MOST_BYTES input.before input.after
-    → ((bytes : List ℕ) → IsTextOf bytes bundle.code bundle.cert → IfErr r (NotMade command bytes)) → IfErr r (NoText command input)
+    → ((bytes : List ℕ) → IsBundleOf bytes bundle.code bundle.cert → IfErr r (NotMade command bytes)) → IfErr r (NoText command input)
 no_text-collected Check input bundle r takes read why =
     no_text-given Check input read.came r read.within (came-whole input.before input.after read.came read.comes read.end) (why read.came read.text)
 no_text-collected (Run ps ss tape) input bundle r takes read why =
@@ -412,6 +472,8 @@ no_text-collected (Count ps one two qs) input bundle r takes read why =
     no_text-given (Count ps one two qs) input read.came r read.within (came-whole input.before input.after read.came read.comes read.end) (why read.came read.text)
 no_text-collected Report input bundle r takes read why =
     no_text-given Report input read.came r read.within (came-whole input.before input.after read.came read.comes read.end) (why read.came read.text)
+no_text-collected Regs input bundle r takes read why =
+    no_text-given Regs input read.came r read.within (came-whole input.before input.after read.came read.comes read.end) (why read.came read.text)
 no_text-collected (Compile order) input bundle r takes read why = absurd takes
 no_text-collected (Eval ps ss) input bundle r takes read why = absurd takes
 no_text-collected (Gen turns) input bundle r takes read why = absurd takes

@@ -1,6 +1,9 @@
 pub mod Cases
 pub mod Causes
 pub mod Texts
+pub mod Renamed
+pub mod RegisterTexts
+pub mod Allocated
 pub mod Bundles
 pub mod Given
 pub mod Events

@@ -1,5 +1,5 @@
 -- One event more of a bundle that is being read.
-use Rattle.std.proofs.Common.{◌≡◌, ℕ, ◌≤◌, ◌<◌, List, [], ◌∷◌, ◌++◌, Option, Err, refl, sym, ◌∙◌, subst, arith}
+use Rattle.std.proofs.Common.{◌≡◌, ℕ, ◌≤◌, ◌<◌, List, [], ◌∷◌, ◌++◌, Option, Err, sym, ◌∙◌, subst, arith}
 use Rattle.std.specs.Prelude.{All, codes}
 use Rattle.std.specs.List.{AllByRecursion}
 use Rattle.std.proofs.lemmas.List.Elements.{All-from_recursion, All-nil}
@@ -28,8 +28,9 @@ use Rattle.mk_top.specs.Faults.{fault_of_bundle, fault_of_check}
 use Rattle.mk_top.specs.Seen.{Seen}
 use Rattle.mk_top.specs.Reading.{Reading, GivesBundle, IsInput}
 use Rattle.mk_top.specs.Running.{NoBundle, NotMade, NoText, Made, Checked}
-use Rattle.mk_top.proofs.Bundles.{text-given}
-use Rattle.mk_top.proofs.Given.{no_bundle, came-whole, no_text-given, read-given}
+use Rattle.mk_top.proofs.Renamed.{bundle-kept}
+use Rattle.mk_top.proofs.Allocated.{checks-made}
+use Rattle.mk_top.proofs.Given.{no_bundle, came-whole, no_text-given, read-given, checks-given}
 
 -- a new reader took nothing
 pub reading-new : (left : Option (List ℕ)) (reader : Reader) → Read reader [] [] → reader.limit ≡ MOST_BYTES → Reading left left reader []
@@ -114,16 +115,10 @@ element-maps Gf256 maps only fit = All-from_recursion (λ (m : AddMap). All (λ 
 
 -- a bundle that was checked makes the line that tells so
 pub checked-made : (input : Seen) (line : List ℕ) → Checked input.before input.after → line ≡ codes "accepted\n" → Made Check input line
-checked-made input line c is = record {
-  read = read-given input.before input.after c.bytes MOST_BYTES c.within c.whole;
-  makes = (
+checked-made input line c is =
+    let kept = bundle-kept c.bytes c.code c.cert c.text in
+    let private = accepted_built_in-private c.code c.cert (element-maps c.code.field c.code.maps kept.listing.bytes kept.maps) c.accepted in
     record {
-      code = c.code;
-      cert = c.cert;
-      bundle = text-given input.before input.after c.bytes c.code c.cert c.whole (c.bytes, c.text, refl);
-      accepted = c.accepted;
-      private = accepted_built_in-private c.code c.cert (element-maps c.code.field c.code.maps c.text.0.listing.bytes c.text.0.maps) c.accepted;
-    },
-    is,
-  );
-}
+      read = read-given input.before input.after c.bytes MOST_BYTES c.within c.whole;
+      makes = (checks-given input.before input.after c.bytes c.whole (checks-made c.bytes c.code c.cert c.text c.accepted private), is);
+    }

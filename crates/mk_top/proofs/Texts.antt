@@ -28,7 +28,7 @@ use Rattle.mk_bundle.specs.Text.{text, head_lines, number_line}
 use Rattle.mk_rules.specs.Pairs.{IsPair}
 
 -- lists of at most m elements, one for each of these things, have together at most m for each
-short-lines : {X : Type 0} (f : X → List ℕ) (P : X → Type 0) (m : ℕ) → ((x : X) → P x → length (f x) ≤ m)
+pub short-lines : {X : Type 0} (f : X → List ℕ) (P : X → Type 0) (m : ℕ) → ((x : X) → P x → length (f x) ≤ m)
     → (xs : List X) → AllByRecursion P xs → length (flat_map f xs) ≤ length xs * m
 short-lines f P m short [] all = omega arith
 short-lines f P m short (x ∷ xs) all =
@@ -45,12 +45,12 @@ short-operand (Public k) fits = omega (arith, short-decimal k fits)
 short-operand (Block k) fits = omega (arith, short-decimal k fits)
 
 -- two words with a space between them and a line feed behind them
-two-words : (xs ys : List ℕ) (m n : ℕ) → length xs ≤ m → length ys ≤ n → length (xs ++ 32 ∷ [] ++ ys ++ 10 ∷ []) ≤ m + n + 2
+pub two-words : (xs ys : List ℕ) (m n : ℕ) → length xs ≤ m → length ys ≤ n → length (xs ++ 32 ∷ [] ++ ys ++ 10 ∷ []) ≤ m + n + 2
 two-words xs ys m n first second =
     omega (arith, first, second, length-append (xs ++ 32 ∷ [] ++ ys) (10 ∷ []), length-append (xs ++ 32 ∷ []) ys, length-append xs (32 ∷ []))
 
 -- a word with a line feed behind it
-one-word : (xs : List ℕ) (m : ℕ) → length xs ≤ m → length (xs ++ 10 ∷ []) ≤ m + 1
+pub one-word : (xs : List ℕ) (m : ℕ) → length xs ≤ m → length (xs ++ 10 ∷ []) ≤ m + 1
 one-word xs m first = omega (arith, first, length-append xs (10 ∷ []))
 
 -- two operands, as the end of a line
@@ -66,7 +66,7 @@ one-operand : (arg : Operand) → OperandFits arg → length (operand_word arg +
 one-operand arg fits = omega (arith, one-word (operand_word arg) 11 (short-operand arg fits))
 
 -- the line of a block
-short-op : (op : Op) → OpFits op → length (op_line op) ≤ 40
+pub short-op : (op : Op) → OpFits op → length (op_line op) ≤ 40
 short-op (Const value) fits = omega arith
 short-op (PubAdd left right) fits = omega (arith, two-operands left right fits.0 fits.1)
 short-op (PubMul left right) fits = omega (arith, two-operands left right fits.0 fits.1)
@@ -82,11 +82,11 @@ short-op (Mul left right) fits = omega (arith, two-operands left right fits.0 fi
 short-op (Refresh arg) fits = omega (arith, one-operand arg fits)
 
 -- the line of a claim
-short-claim : (value : Operand) → OperandFits value → length (claim_line value) ≤ 40
+pub short-claim : (value : Operand) → OperandFits value → length (claim_line value) ≤ 40
 short-claim value fits = omega (arith, one-operand value fits)
 
 -- the line of a map
-short-map : (map : AddMap) → MapFits map → length (map_line map) ≤ 40
+pub short-map : (map : AddMap) → MapFits map → length (map_line map) ≤ 40
 short-map map fits =
     omega (
       arith,
@@ -120,7 +120,7 @@ short-instrs field maps len (i ∷ is) fit few small =
     )
 
 -- the lines of outputs
-short-outs : (shares outputs : ℕ) (ps : List ℕ) → All (λ p. p < 2 ^ 32) ps → length (out_lines shares outputs ps) ≤ 4 * outputs + 11 * length ps
+pub short-outs : (shares outputs : ℕ) (ps : List ℕ) → All (λ p. p < 2 ^ 32) ps → length (out_lines shares outputs ps) ≤ 4 * outputs + 11 * length ps
 unfolding out_lines
 short-outs shares zero ps small = omega arith
 short-outs shares (suc outputs) ps small =
@@ -139,12 +139,12 @@ short-outs shares (suc outputs) ps small =
     )
 
 -- the line of the field
-short-field : (field : FieldId) → length (field_line field) ≤ 12
+pub short-field : (field : FieldId) → length (field_line field) ≤ 12
 short-field Gf2 = omega arith
 short-field Gf256 = omega arith
 
 -- the line of a number
-short-number : (name : List ℕ) (n : ℕ) → n < 2 ^ 32 → length (number_line name n) ≤ length name + 12
+pub short-number : (name : List ℕ) (n : ℕ) → n < 2 ^ 32 → length (number_line name n) ≤ length name + 12
 short-number name n fits =
     omega (arith, short-decimal n fits, length-append (name ++ codes " " ++ decimal n) (10 ∷ []), length-append (name ++ codes " ") (decimal n), length-append name (codes " "))
 

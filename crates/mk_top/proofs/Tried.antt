@@ -175,7 +175,7 @@ tries-made turns order written tree code cert is_source within correct maps priv
     correct = correct;
     private = private;
     accepted = accepted;
-    checks = (short-text code cert pair, (code, cert, (pair, refl), accepted));
+    checks = (short-text code cert pair, (code, cert, inl (pair, refl), accepted));
   };
   made = record { certified = certified; different = different; maps = maps };
   bytes = line;

@@ -2,7 +2,7 @@
 use Rattle.std.specs.Prelude.{◌≡◌, ◌≢◌, ℕ, ◌≤◌, ◌<◌, List, Option, Some, None, IfSome, length, ◌⊎◌, []}
 use Rattle.mk_base.specs.Outside.{Rose}
 use Rattle.mk_base.specs.Streams.{CameWithin}
-use Rattle.mk_words.specs.Words.{Command, Compile, Check, Eval, Run, Count, Report, Gen, Trial, Table, Gadget}
+use Rattle.mk_words.specs.Words.{Command, Compile, Check, Eval, Run, Count, Report, Gen, Trial, Table, Gadget, Regs}
 use Rattle.mk_words.specs.declared.status.Status.{Status}
 use Rattle.mk_words.specs.declared.status.Status.TheVariants as status
 use Rattle.mk_top.specs.declared.fault.Fault.{Fault}
@@ -81,6 +81,8 @@ IsAnswerOf (Trial turns order) status.Source = Unit {0}
 IsAnswerOf Table status.Inputs = Unit {0}
 IsAnswerOf Gadget status.Bundle = Unit {0}
 IsAnswerOf Gadget status.Tapes = Unit {0}
+IsAnswerOf Regs status.Refused = Unit {0}
+IsAnswerOf Regs status.Bundle = Unit {0}
 IsAnswerOf command _ = ⊥
 
 -- the fault's line was told: a prefix of it, where the error output tells what it took, and the whole

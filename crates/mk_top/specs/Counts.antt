@@ -23,7 +23,7 @@ abbrev pub table_text : List Row → List ℕ
 table_text rows = flat_map row_line rows ++ verdict_line rows
 
 -- A bundle, given where the input tells its bytes, was counted on these public inputs, the secrets of two worlds and
--- these probes to this text: the bytes are the text of a code and a certificate, whoever wrote them, and the text is
+-- these probes to this text: the bytes are a text of a code and a certificate, whoever wrote them, and the text is
 -- the lines of the table of both worlds: each list of values that the probes show in one of them, and in how many
 -- ways in each.
 pub record Counts (publics first second probes : List ℕ) (given : Option (List ℕ)) (written : List ℕ) : Type 0 where

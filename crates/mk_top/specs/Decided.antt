@@ -10,7 +10,8 @@ use Rattle.mk_lines.specs.Lines.{NamesFirst}
 use Rattle.mk_parse.specs.declared.TheConstants.{MOST_SOURCE_BYTES}
 use Rattle.mk_unroll.specs.declared.TheConstants.{MOST_SIZE}
 use Rattle.mk_bundle.specs.declared.TheConstants.{MOST_BYTES}
-use Rattle.mk_bundle.specs.Pairs.{IsTextOf, IsBundleText}
+use Rattle.mk_regs.specs.declared.refusal.RegRefusal.TheVariants as unnamed
+use Rattle.mk_bundle.specs.Pairs.{IsBundleOf, IsBundleText, IsRefusedText}
 use Rattle.mk_ast.specs.declared.tree.Program.{Program as Tree}
 use Rattle.mk_ast.specs.declared.refusal.SourceRefusal.TheVariants as refusal_
 use Rattle.mk_ast.specs.declared.refusal.Limit.TheVariants as limit_
@@ -29,7 +30,7 @@ use Rattle.mk_pad.specs.Positions.{counts, AreFew}
 use Rattle.mk_pad.specs.Verified.{set_count, IsUnverified}
 use Rattle.mk_lib.specs.declared.TheConstants.{MOST_GADGET_BYTES}
 use Rattle.mk_lib.specs.Texts as gadgets
-use Rattle.mk_words.specs.Words.{Command, Compile, Check, Eval, Run, Count, Report, Gen, Trial, Table, Gadget, GivenTape}
+use Rattle.mk_words.specs.Words.{Command, Compile, Check, Eval, Run, Count, Report, Gen, Trial, Table, Gadget, Regs, GivenTape}
 use Rattle.mk_top.specs.declared.fault.Fault.{Fault}
 use Rattle.mk_top.specs.declared.fault.Fault.TheVariants as fault
 use Rattle.mk_words.specs.declared.fault.SourceFault.TheVariants as source
@@ -52,6 +53,7 @@ limit_of (Gen turns) = 0
 limit_of (Trial turns order) = 0
 limit_of Table = TABLE_BYTES
 limit_of Gadget = MOST_GADGET_BYTES
+limit_of Regs = MOST_BYTES
 
 -- the refusal of the checker that a fault tells
 abbrev pub refusal_of : CheckFault → CheckRefusal
@@ -75,10 +77,12 @@ abbrev pub CountDecides : List ℕ → List ℕ → List ℕ → List ℕ → Li
 CountDecides publics first second probes code cert answer = answer ≡ option_map fault_of_count (count_refusal code publics first second probes)
 
 -- the answer that a bundle decides, by what a code and certificate decide: that of its own, or where it goes
--- wrong as a text
+-- wrong as a text, or why its register code can't be renamed
 abbrev pub BundleDecides : (Listing → Claimed → Option Fault → Type 0) → List ℕ → Option Fault → Type 0
 BundleDecides decides bytes (Some (fault.Bundle line)) = NamesFirst IsBundleText line bytes × (IsBundleText bytes → ⊥)
-BundleDecides decides bytes answer = (code : Listing) × (cert : Claimed) × IsTextOf bytes code cert × decides code cert answer
+BundleDecides decides bytes (Some (fault.Unset instr)) = IsRefusedText (unnamed.Unset instr) bytes
+BundleDecides decides bytes (Some (fault.Register instr)) = IsRefusedText (unnamed.Register instr) bytes
+BundleDecides decides bytes answer = (code : Listing) × (cert : Claimed) × IsBundleOf bytes code cert × decides code cert answer
 
 -- The answer that a source decides, by what a well typed tree decides: it spells none, and then its first
 -- place where no program can go on; or one with a first offence; or one that is well typed.
@@ -142,6 +146,7 @@ TextDecides (Gen turns) bytes answer = answer ≡ None
 TextDecides (Trial turns order) bytes answer = TrialDecides turns order answer
 TextDecides Table bytes answer = TableDecides bytes answer
 TextDecides Gadget bytes answer = GadgetDecides bytes answer
+TextDecides Regs bytes answer = BundleDecides PairDecides bytes answer
 
 -- the answer that the bytes of the input decide under a command: no fault, or this one
 abbrev pub Decides : Command → List ℕ → Option Fault → Type 0

@@ -31,6 +31,8 @@ abbrev pub fault_of_bundle : StreamRefusal → Fault
 fault_of_bundle stream.Fault = fault.ReadFault
 fault_of_bundle stream.TooLong = fault.TooLong MOST_BYTES
 fault_of_bundle (stream.Form line) = fault.Bundle line
+fault_of_bundle (stream.Unset instr) = fault.Unset instr
+fault_of_bundle (stream.Register instr) = fault.Register instr
 fault_of_bundle stream.Memory = fault.Memory
 
 -- the fault of a refused source
@@ -94,6 +96,8 @@ status_of (fault.Source why) = status.Source
 status_of (fault.Inputs why) = status.Inputs
 status_of (fault.Check why) = status.Refused
 status_of (fault.Bundle line) = status.Bundle
+status_of (fault.Unset instr) = status.Bundle
+status_of (fault.Register instr) = status.Bundle
 status_of (fault.Gadget line) = status.Bundle
 status_of (fault.Sets sets) = status.Tapes
 status_of (fault.Terms terms) = status.Tapes
@@ -110,6 +114,8 @@ fault_line (fault.Source why) = source_line why
 fault_line (fault.Inputs why) = input_line why
 fault_line (fault.Check why) = check_line why
 fault_line (fault.Bundle line) = numbered_line (codes "41 bundle ") line
+fault_line (fault.Unset instr) = numbered_line (codes "42 unset ") instr
+fault_line (fault.Register instr) = numbered_line (codes "43 register ") instr
 fault_line (fault.Gadget line) = numbered_line (codes "44 gadget ") line
 fault_line (fault.Sets sets) = numbered_line (codes "61 sets ") sets
 fault_line (fault.Terms terms) = numbered_line (codes "62 terms ") terms

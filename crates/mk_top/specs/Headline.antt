@@ -8,7 +8,9 @@ use Rattle.mk_ssa.specs.declared.Op.{Op}
 use Rattle.mk_ssa.specs.declared.Op.TheVariants.{Refresh}
 use Rattle.mk_rules.specs.Claimed.{Claimed}
 use Rattle.mk_rules.specs.Accepts.{IsAccepted}
-use Rattle.mk_bundle.specs.Pairs.{IsTextOf}
+use Rattle.mk_regs.specs.Form.{RegListing}
+use Rattle.mk_regs.specs.Allocation.{IsAllocated}
+use Rattle.mk_bundle.specs.Pairs.{IsTextOf, IsRegisterTextOf}
 use Rattle.mk_ast.specs.declared.tree.Program.{Program as Tree}
 use Rattle.mk_types.specs.Offences.{IsWellTyped}
 use Rattle.mk_types.specs.Elements.{maps_of}
@@ -19,9 +21,9 @@ use Rattle.mk_gen.specs.Generated.{IsGenerated, generated}
 use Rattle.mk_place.specs.Different.{AllDifferButRefreshes}
 use Rattle.mk_compile.specs.Compiled.{IsWithin, IsCertified}
 use Rattle.mk_compile.specs.Correct.{Correct}
-use Rattle.mk_words.specs.Words.{Command, Compile, Check, Eval, Run, Count, Report, Gen, Trial, Table, Gadget, elements_word}
+use Rattle.mk_words.specs.Words.{Command, Compile, Check, Eval, Run, Count, Report, Gen, Trial, Table, Gadget, Regs, elements_word}
 use Rattle.mk_top.specs.Sources.{IsSourceOf}
-use Rattle.mk_top.specs.Bundles.{GivesText}
+use Rattle.mk_top.specs.Bundles.{GivesText, IsPrivateInRegisters, AreRegistersPrivate}
 use Rattle.mk_top.specs.Runs.{Runs}
 use Rattle.mk_top.specs.Counts.{Counts}
 use Rattle.mk_top.specs.Tables.{Tabulates}
@@ -65,14 +67,27 @@ pub record IsMadeOf (tree : Tree) (code : Listing) (cert : Claimed) : Type 0 whe
 abbrev pub CompilesSo : ℕ → Option (List ℕ) → List ℕ → Type 0
 CompilesSo order given written = (c : Compiles order given written) × IsMadeOf c.tree c.code c.cert
 
--- A bundle, given where the input tells its bytes, was checked: the bytes are the text of a code and a
--- certificate, whoever wrote them, the rule accepts the code with its certificate, and it is private.
+-- A bundle, given where the input tells its bytes, was checked: the bytes are a text of a code and a
+-- certificate, whoever wrote them, the rule accepts the code with its certificate, and it is private. Where they are the
+-- text of register code, that is private too, over its trace and at its writes.
 pub record Checks (given : Option (List ℕ)) : Type 0 where
   pub code : Listing
   pub cert : Claimed
   pub bundle : GivesText given code cert
   pub accepted : IsAccepted code cert
   pub private : Private code
+  pub registers : AreRegistersPrivate given
+
+-- A bundle, given where the input tells its bytes, was checked, and a text was written: that of the register code that is
+-- allocated for its code, with the same certificate. The register code is private, over its trace and at its writes. The
+-- bytes of the text, which are within the limit of a bundle, decide that `check` has no fault.
+pub record Allocates (given : Option (List ℕ)) (written : List ℕ) : Type 0 where
+  pub checked : Checks given
+  pub allocated : RegListing
+  pub allocation : IsAllocated checked.code allocated
+  pub text : IsRegisterTextOf written allocated checked.cert
+  pub private : IsPrivateInRegisters allocated
+  pub checks : Decides Check written None
 
 -- A source, given where the input tells its bytes, was evaluated on these inputs to this text: the bytes spell
 -- one tree, which is well typed, and the text is the word of its result on them and a line feed.
@@ -84,7 +99,7 @@ pub record Evaluates (publics secrets : List ℕ) (given : Option (List ℕ)) (w
   pub taken : refusal tree publics secrets ≡ None
   pub bytes : written ≡ elements_word outputs ++ 10 ∷ []
 
--- A bundle, given where the input tells its bytes, was reported on to this text: the bytes are the text of a code and
+-- A bundle, given where the input tells its bytes, was reported on to this text: the bytes are a text of a code and
 -- a certificate, whoever wrote them, the rule accepts the code with its certificate, and the text is their report.
 pub record Reports (given : Option (List ℕ)) (written : List ℕ) : Type 0 where
   pub code : Listing
@@ -132,3 +147,4 @@ Makes (Gen turns) given written = Generates turns written
 Makes (Trial turns order) given written = Tries turns order written
 Makes Table given written = Tabulates given written
 Makes Gadget given written = Judges given written
+Makes Regs given written = Allocates given written

@@ -4,6 +4,7 @@ pub mod Gadgets
 pub mod Forms
 pub mod Seen
 pub mod Bundles
+pub mod Registers
 pub mod Runs
 pub mod Counts
 pub mod Faults

@@ -8,7 +8,7 @@ use Rattle.mk_bundle.specs.declared.TheConstants.{MOST_BYTES}
 use Rattle.mk_bundle.specs.declared.event.Head.{Head}
 use Rattle.mk_bundle.specs.declared.event.Event.{Event}
 use Rattle.mk_bundle.specs.declared.event.Event.TheVariants as event
-use Rattle.mk_bundle.specs.Pairs.{IsTextOf}
+use Rattle.mk_bundle.specs.Pairs.{IsBundleOf}
 use Rattle.mk_bundle.specs.Events.{events_of, AreFirst}
 use Rattle.mk_bundle.specs.Taking.{Comes}
 use Rattle.mk_bundle.specs.Reads.{Reader, Read}
@@ -23,12 +23,12 @@ pub record Reading (before now : Option (List ℕ)) (reader : Reader) (events : 
   pub read : Read reader taken events
   pub limit : reader.limit ≡ MOST_BYTES
 
--- the input was read to its end, and gave the text of the pair of these events and the last one
+-- the input was read to its end, and gave a text of the pair of these events and the last one
 pub record GivesBundle (before after : Option (List ℕ)) (events : List Event) : Type 0 where
   pub bytes : List ℕ
   pub code : Listing
   pub cert : Claimed
-  pub text : IsTextOf bytes code cert
+  pub text : IsBundleOf bytes code cert
   pub gave : events ++ event.End ∷ [] ≡ events_of code cert
   pub within : length bytes ≤ MOST_BYTES
   pub whole : IfSome before (λ rest. ReadsAll rest bytes after)

@@ -6,15 +6,15 @@ use Rattle.mk_code.specs.Listing.{Listing}
 use Rattle.mk_rules.specs.Claimed.{Claimed}
 use Rattle.mk_rules.specs.Accepts.{IsAccepted}
 use Rattle.mk_bundle.specs.declared.TheConstants.{MOST_BYTES}
-use Rattle.mk_bundle.specs.Pairs.{IsTextOf}
+use Rattle.mk_bundle.specs.Pairs.{IsBundleOf, IsRegisterPair}
 use Rattle.mk_rules.specs.Pairs.{IsPair}
-use Rattle.mk_bundle.specs.Text.{text}
+use Rattle.mk_bundle.specs.Text.{text, register_text}
 use Rattle.mk_top.specs.declared.answer.Answer.{Answer}
 use Rattle.mk_top.specs.declared.answer.Answer.TheVariants as answer
 use Rattle.mk_top.specs.declared.fault.Fault.{Fault}
 use Rattle.mk_top.specs.declared.fault.Fault.TheVariants.{Words, Source, ReadFault, WriteFault, Memory, TooLong}
 use Rattle.mk_top.specs.Seen.{Seen}
-use Rattle.mk_words.specs.Words.{Command, Check, Run, Count, Report, Asks, IsNoForm}
+use Rattle.mk_words.specs.Words.{Command, Check, Run, Count, Report, Regs, Asks, IsNoForm}
 use Rattle.mk_top.specs.Decided.{SourceDecides, TextDecides, limit_of}
 use Rattle.mk_top.specs.Headline.{Makes, TakesWhole, TakesSome}
 use Rattle.mk_top.specs.Because.{ReadWhole, input_of, Reads, IsAnswerOf}
@@ -64,6 +64,7 @@ TakesBundle Check = Unit {0}
 TakesBundle (Run publics secrets tape) = Unit {0}
 TakesBundle (Count publics first second probes) = Unit {0}
 TakesBundle Report = Unit {0}
+TakesBundle Regs = Unit {0}
 TakesBundle command = ⊥
 
 -- why a command that reads a bundle has no text: its input gives none
@@ -75,7 +76,7 @@ pub record Checked (before after : Option (List ℕ)) : Type 0 where
   pub bytes : List ℕ
   pub code : Listing
   pub cert : Claimed
-  pub text : IsTextOf bytes code cert
+  pub text : IsBundleOf bytes code cert
   pub accepted : IsAccepted code cert
   pub within : length bytes ≤ MOST_BYTES
   pub whole : IfSome before (λ rest. ReadsAll rest bytes after)
@@ -85,15 +86,17 @@ pub record Made (command : Command) (input : Seen) (written : List ℕ) : Type 0
   pub read : ReadWhole (limit_of command) (input_of command input.before) (input_of command input.after)
   pub makes : Makes command (input_of command input.before) written
 
--- the text of an answer: its own, or that of its bundle
+-- the text of an answer: its own, or that of its bundle, or of its register code and certificate
 abbrev pub text_of : Answer → List ℕ
 text_of (answer.Text bytes) = bytes
 text_of (answer.Bundle bundle) = text bundle.code bundle.cert
+text_of (answer.Registers made) = register_text made.code made.cert
 
--- an answer can be written: a bundle's code and certificate are a pair
+-- an answer can be written: its code and certificate are a pair
 abbrev pub HasText : Answer → Type 0
 HasText (answer.Text bytes) = Unit {0}
 HasText (answer.Bundle bundle) = IsPair bundle.code bundle.cert
+HasText (answer.Registers made) = IsRegisterPair made.code made.cert
 
 -- what was made, as an answer
 abbrev pub answered : {X : Type 0} → (X → Answer) → Result X Fault → Result Answer Fault

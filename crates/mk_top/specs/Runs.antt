@@ -36,7 +36,7 @@ unfolding digits output_lines field_sum encode_with
 output_lines-two = refl
 
 -- A bundle, given where the input tells its bytes, was run on these inputs and this tape to this text: the bytes
--- are the text of a code and a certificate, whoever wrote them, and the text is the lines of the code's outputs.
+-- are a text of a code and a certificate, whoever wrote them, and the text is the lines of the code's outputs.
 -- The first elements of the whole tape encode the secrets, and the code takes its random elements from the rest.
 pub record Runs (publics secrets : List ℕ) (tape : GivenTape) (given : Option (List ℕ)) (written : List ℕ) : Type 0 where
   pub code : Listing

@@ -9,8 +9,16 @@ ghost use Rattle.mk_top.specs.Running.{HasText, answered, text_of};
 
 use crate::fault::Fault;
 use mk_base::{Bytes, Sink, write_all};
-use mk_bundle::write_bundle;
-use mk_rules::Bundle;
+use mk_bundle::{write_bundle, write_registers};
+use mk_regs::RegCode;
+use mk_rules::{Bundle, Cert};
+
+/// Register code and its certificate.
+#[derive(Debug, Drop)]
+pub(crate) struct RegisterBundle {
+    pub(crate) code: RegCode,
+    pub(crate) cert: Cert,
+}
 
 /// A text, or a bundle, whose text is made while it is written.
 #[derive(Debug, Drop)]
@@ -19,6 +27,8 @@ pub(crate) enum Answer {
     Text(Bytes),
     /// A code and its certificate.
     Bundle(Bundle),
+    /// Register code and its certificate.
+    Registers(RegisterBundle),
 }
 
 impl Answer {
@@ -34,6 +44,7 @@ impl Answer {
         let written = match self {
             Answer::Text(bytes) => write_all(out, bytes.as_slice()),
             Answer::Bundle(bundle) => write_bundle(out, &bundle.code, &bundle.cert),
+            Answer::Registers(made) => write_registers(out, &made.code, &made.cert),
         };
         written.map_err(|_| Fault::WriteFault)
     }
@@ -51,4 +62,11 @@ pub(crate) fn bundle_answer(made: Result<Bundle, Fault>) -> Result<Answer, Fault
     ensures { result ≡ answered answer.Bundle made }
 {
     made.map(Answer::Bundle)
+}
+
+/// Register code that was made, with its certificate, as an answer.
+pub(crate) fn registers_answer(made: Result<RegisterBundle, Fault>) -> Result<Answer, Fault>
+    ensures { result ≡ answered answer.Registers made }
+{
+    made.map(Answer::Registers)
 }

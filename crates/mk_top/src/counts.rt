@@ -3,7 +3,7 @@
 ghost use Rattle.std.specs.Prelude.{◌≡◌, ◌++◌, ◌≤◌, ◌<◌, ◌^◌, ℕ, List, Some, IfOk, IfErr, OnOk, length};
 ghost use Rattle.std.specs.Prelude.{string_bytes, nat_eq, flat_map};
 ghost use Rattle.std.specs.List.{list_all};
-ghost use Rattle.mk_bundle.specs.Pairs.{IsTextOf};
+ghost use Rattle.mk_bundle.specs.Pairs.{IsBundleOf};
 ghost use Rattle.mk_words.specs.Words.{Count};
 ghost use Rattle.mk_top.specs.Counts.{Counts, row_line, table_text};
 ghost use Rattle.mk_top.specs.Seen.{seen};
@@ -73,9 +73,9 @@ fn count_of(
     requires first { length first.now < 2 ^ 32 }
     requires second { length second.now < 2 ^ 32 }
     requires probes { length probes.now < 2 ^ 32 }
-    ensures counts { (text : List ℕ) → IsTextOf text bundle.now.code bundle.now.cert
+    ensures counts { (text : List ℕ) → IsBundleOf text bundle.now.code bundle.now.cert
         → IfOk result (Counts publics.now first.now second.now probes.now (Some text)) }
-    ensures fault { (text : List ℕ) → IsTextOf text bundle.now.code bundle.now.cert
+    ensures fault { (text : List ℕ) → IsBundleOf text bundle.now.code bundle.now.cert
         → IfErr result (NotMade (Count publics.now first.now second.now probes.now) text) }
 {
     let table = count(alloc, &bundle.code, publics, first, second, probes)?;

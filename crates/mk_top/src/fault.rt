@@ -24,6 +24,10 @@ pub enum Fault {
     Check(CheckFault),
     /// No bundle text goes on behind this line, counted from 1.
     Bundle { line: u32 },
+    /// The instruction of a bundle's register code of this number, from 0, reads a register that holds nothing.
+    Unset { instr: u32 },
+    /// The instruction of a bundle's register code of this number, from 0, names a register that isn't there.
+    Register { instr: u32 },
     /// No gadget text goes on behind this line, counted from 1.
     Gadget { line: u32 },
     /// There are so many sets of positions to look at, which are too many.
@@ -64,6 +68,8 @@ impl From<StreamRefusal> for Fault {
             StreamRefusal::Fault => Fault::ReadFault,
             StreamRefusal::TooLong => Fault::TooLong { limit: MOST_BYTES },
             StreamRefusal::Form { line } => Fault::Bundle { line },
+            StreamRefusal::Unset { instr } => Fault::Unset { instr },
+            StreamRefusal::Register { instr } => Fault::Register { instr },
             StreamRefusal::Memory => Fault::Memory,
         }
     }
@@ -213,6 +219,8 @@ impl Fault {
             Fault::Inputs(_) => Status::Inputs,
             Fault::Check(_) => Status::Refused,
             Fault::Bundle { line: _ } => Status::Bundle,
+            Fault::Unset { instr: _ } => Status::Bundle,
+            Fault::Register { instr: _ } => Status::Bundle,
             Fault::Gadget { line: _ } => Status::Bundle,
             Fault::Sets { sets: _ } => Status::Tapes,
             Fault::Terms { terms: _ } => Status::Tapes,
@@ -234,6 +242,8 @@ impl Fault {
             Fault::Inputs(fault) => fault.line(),
             Fault::Check(fault) => fault.line(),
             Fault::Bundle { line } => numbered("41 bundle ", line),
+            Fault::Unset { instr } => numbered("42 unset ", instr),
+            Fault::Register { instr } => numbered("43 register ", instr),
             Fault::Gadget { line } => numbered("44 gadget ", line),
             Fault::Sets { sets } => counted("61 sets ", sets),
             Fault::Terms { terms } => counted("62 terms ", terms),

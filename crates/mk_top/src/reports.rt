@@ -1,7 +1,7 @@
 //! Reports: a bundle read, checked, and then reported on.
 
 ghost use Rattle.std.specs.Prelude.{◌≤◌, ℕ, List, Some, IfOk, IfErr};
-ghost use Rattle.mk_bundle.specs.Pairs.{IsTextOf};
+ghost use Rattle.mk_bundle.specs.Pairs.{IsBundleOf};
 ghost use Rattle.mk_words.specs.Words.{Report};
 ghost use Rattle.mk_top.specs.Headline.{Reports};
 ghost use Rattle.mk_top.specs.Seen.{seen};
@@ -17,9 +17,9 @@ use std::alloc::Global;
 
 /// The report of a bundle.
 fn report_of(alloc: Global, bundle: &Bundle) -> Result<Bytes, Fault>
-    ensures reports { (text : List ℕ) → IsTextOf text bundle.now.code bundle.now.cert
+    ensures reports { (text : List ℕ) → IsBundleOf text bundle.now.code bundle.now.cert
         → IfOk result (Reports (Some text)) }
-    ensures fault { (text : List ℕ) → IsTextOf text bundle.now.code bundle.now.cert
+    ensures fault { (text : List ℕ) → IsBundleOf text bundle.now.code bundle.now.cert
         → IfErr result (NotMade Report text) }
 {
     check(alloc, &bundle.code, &bundle.cert)?;

@@ -1,7 +1,7 @@
 //! Runs of the code of a bundle.
 
 ghost use Rattle.std.specs.Prelude.{◌≡◌, ◌⊎◌, ◌≤◌, ◌<◌, ◌^◌, ℕ, List, Some, None, IfOk, IfErr, length};
-ghost use Rattle.mk_bundle.specs.Pairs.{IsTextOf};
+ghost use Rattle.mk_bundle.specs.Pairs.{IsBundleOf};
 ghost use Rattle.mk_code.specs.Private.{masked_trace};
 ghost use Rattle.mk_run.specs.Refusals.{whole_refusal};
 ghost use Rattle.mk_run.specs.declared.refusal.RunRefusal.TheVariants as refusal_;
@@ -88,9 +88,9 @@ fn run_of(
     requires publics { length publics.now < 2 ^ 32 }
     requires secrets { length secrets.now < 2 ^ 32 }
     requires tape { IsShort tape }
-    ensures runs { (text : List ℕ) → IsTextOf text bundle.now.code bundle.now.cert
+    ensures runs { (text : List ℕ) → IsBundleOf text bundle.now.code bundle.now.cert
         → IfOk result (Runs publics.now secrets.now (given_of tape.entry) (Some text)) }
-    ensures fault { (text : List ℕ) → IsTextOf text bundle.now.code bundle.now.cert
+    ensures fault { (text : List ℕ) → IsBundleOf text bundle.now.code bundle.now.cert
         → IfErr result (NotMade (Run publics.now secrets.now (given_of tape.entry)) text) }
 {
     Ok(text_of_run(alloc, &bundle.code, publics, secrets, tape)?)

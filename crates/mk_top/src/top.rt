@@ -2,7 +2,8 @@ ghost use Rattle.std.specs.Prelude.{◌≡◌, ◌≢◌, ◌≤◌, ◌<◌, �
 ghost use Rattle.std.specs.Prelude.{OnOk, length};
 ghost use Rattle.mk_base.specs.Outside.{Rose};
 ghost use Rattle.mk_words.specs.declared.status.Status.{Status};
-ghost use Rattle.mk_words.specs.Words.{Command, Compile, Check, Eval, Run, Count, Report, Gen, Trial, Table, Gadget, GivenTape};
+ghost use Rattle.mk_words.specs.Words.{Command, Compile, Check, Eval, Run, Count, Report, Gen, Trial, Table, Gadget};
+ghost use Rattle.mk_words.specs.Words.{Regs, GivenTape};
 ghost use Rattle.mk_words.specs.Words.{Asks, IsForm, IsNoForm};
 ghost use Rattle.mk_words.specs.Forms.{AreElements, AreProbes, IsTapeForm};
 ghost use Rattle.mk_top.specs.declared.fault.Fault.{Fault};
@@ -10,8 +11,8 @@ ghost use Rattle.mk_top.specs.Seen.{seen};
 ghost use Rattle.mk_top.specs.Forms.{OfElements, OfRun, OfCount};
 ghost use Rattle.mk_top.specs.Faults.{status_of, fault_line};
 ghost use Rattle.mk_top.specs.Decided.{Decides, limit_of};
-ghost use Rattle.mk_top.specs.Headline.{Compiles, CompilesSo, Checks, Evaluates, Reports, Generates, Tries, Makes};
-ghost use Rattle.mk_top.specs.Headline.{TakesWhole, TakesSome};
+ghost use Rattle.mk_top.specs.Headline.{Compiles, CompilesSo, Checks, Allocates, Evaluates, Reports, Generates, Tries};
+ghost use Rattle.mk_top.specs.Headline.{Makes, TakesWhole, TakesSome};
 ghost use Rattle.mk_top.specs.Because.{Because, Reads, input_of, Tells, answer_status, IsOrMemory, ReadsToEnd};
 ghost use Rattle.mk_top.specs.Because.{ReadWhole, WritesNothing, IsAnswerOf};
 ghost use Rattle.mk_top.specs.Runs.{Runs};
@@ -20,11 +21,12 @@ ghost use Rattle.mk_top.specs.Tables.{Tabulates};
 ghost use Rattle.mk_top.specs.Gadgets.{Judges};
 ghost use Rattle.mk_top.specs.Running.{Finished, Stopped, ReadsOrLeaves, Made, NoText, IsMade, IsUnmade};
 
-use crate::answer::{Answer, bundle_answer, text_answer};
+use crate::answer::{Answer, bundle_answer, registers_answer, text_answer};
 use crate::bundle::checked_text;
 use crate::counts::counted_text;
 use crate::fault::Fault;
 use crate::gadgets::judged_text;
+use crate::registers::allocated_bundle;
 use crate::reports::reported_text;
 use crate::runs::{WholeTape, ran_text};
 use crate::source::{compiled_bundle, evaluated_text};
@@ -171,6 +173,7 @@ fn answer_asked<S: Source>(alloc: Global, words: &Words, src: &mut S) -> Result<
         Some(Form::Trial { turns, order }) => text_answer(tried_text(alloc, turns, order)),
         Some(Form::Table) => text_answer(tabulated_text(alloc, src)),
         Some(Form::Gadget) => text_answer(judged_text(alloc, src)),
+        Some(Form::Regs) => registers_answer(allocated_bundle(alloc, src)),
     }
 }
 
@@ -212,10 +215,12 @@ fn carry_out<S: Source, O: Sink>(
 /// its values cost and which places of products they reach; `gen K`, K being a decimal number from 1 to 3,276, which
 /// reads nothing and writes a source with K turns; `trial K T`, which reads nothing and writes a line on what that
 /// source is compiled to at order T; `table`, which reads 256 bytes, the elements of a table, and writes a source
-/// that gives them; and `gadget`, which reads a gadget text of at most 65,536 bytes and writes whether it is strong, and
-/// whether its value is right. The X of a seed is 64 hexadecimal digits, and that of a tape is its elements. A word of
-/// elements is `-` for none, or two hexadecimal digits of either case for each. Q is `-` for none, or decimal numbers
-/// below 2^32 with commas between.
+/// that gives them; `gadget`, which reads a gadget text of at most 65,536 bytes and writes whether it is strong, and
+/// whether its value is right; and `regs`, which reads a bundle, checks it, and writes the bundle text of its code over
+/// as few registers as can be, with the same certificate. A bundle is read of either version, of code over positions or
+/// over registers. The X of a seed is 64 hexadecimal digits, and that of a tape is its elements. A word of elements is
+/// `-` for none, or two hexadecimal digits of either case for each. Q is `-` for none, or decimal numbers below 2^32
+/// with commas between.
 /// All memory is taken before the first byte is written.
 pub fn mask_main<S: Source, O: Sink, E: Sink>(
     alloc: Global,
@@ -239,7 +244,7 @@ pub fn mask_main<S: Source, O: Sink, E: Sink>(
         → (written : List ℕ) × CompilesSo order (S.left src.old) written
         × TakesWhole (O.taken out.old) written (O.taken out.new) }
 
-    // What `check` accepts is private, whoever wrote it.
+    // What `check` accepts is private, whoever wrote it, and over registers at its writes too.
     ensures checked { Asks words.now Check → result ≡ Status.Done
         → Checks (S.left src.old) × TakesWhole (O.taken out.old) (codes "accepted\n") (O.taken out.new) }
 
@@ -281,6 +286,11 @@ pub fn mask_main<S: Source, O: Sink, E: Sink>(
     // What `gadget` wrote is what is known of the gadget that was read: a verdict, and whether its value is right.
     ensures judged { Asks words.now Gadget → result ≡ Status.Done
         → (written : List ℕ) × Judges (S.left src.old) written
+        × TakesWhole (O.taken out.old) written (O.taken out.new) }
+
+    // What `regs` wrote is the text of the register code of what `check` accepts, and `check` accepts this text too.
+    ensures allocated { Asks words.now Regs → result ≡ Status.Done
+        → (written : List ℕ) × Allocates (S.left src.old) written
         × TakesWhole (O.taken out.old) written (O.taken out.new) }
 
     // Where the output failed, it took the command's text as far as a prefix.

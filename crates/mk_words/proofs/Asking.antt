@@ -4,7 +4,7 @@ use Rattle.std.specs.Prelude.{codes}
 use Rattle.hex.specs.Hex.{decode_of}
 use Rattle.hex.specs.declared.error.FromHexError.TheVariants.{OddLength}
 use Rattle.hex.proofs.HexLemmas.{decode_of-same}
-use Rattle.mk_words.specs.Words.{Command, Compile, Check, Eval, Run, Count, Report, Gen, Trial, Table, Gadget, GivenTape, Seed, Tape, IsOrder, IsTurns, SaysElements, SaysTape, SaysProbes, Asks}
+use Rattle.mk_words.specs.Words.{Command, Compile, Check, Eval, Run, Count, Report, Gen, Trial, Table, Gadget, Regs, GivenTape, Seed, Tape, IsOrder, IsTurns, SaysElements, SaysTape, SaysProbes, Asks}
 use Rattle.mk_words.proofs.Commands.{seed-not-tape}
 use Rattle.mk_words.proofs.Decimals.{says-probes-one, turns-one}
 
@@ -26,22 +26,23 @@ says-tape-one kind word (Seed xs) (Tape ys) first second = absurd (seed-not-tape
 says-tape-one kind word (Tape xs) (Seed ys) first second = absurd (seed-not-tape (sym second.0 ∙ first.0))
 says-tape-one kind word (Tape xs) (Tape ys) first second = ap Tape (says-one word xs ys first.1 second.1)
 
--- what tells the words of commands apart: how many they are, and the first letter
+-- what tells the words of commands apart: how many they are, and the third letter
 abbrev mark_of : List (List ℕ) → ℕ
-mark_of words = 1000 * length words + get_or (get_or words 0 []) 0 0
+mark_of words = 1000 * length words + get_or (get_or words 0 []) 2 0
 
 -- the same of a command
 abbrev mark : Command → ℕ
-mark (Compile order) = 2099
-mark Check = 1099
-mark (Eval publics secrets) = 3101
-mark (Run publics secrets tape) = 5114
-mark (Count publics first second probes) = 5099
-mark Report = 1114
-mark (Gen turns) = 2103
-mark (Trial turns order) = 3116
-mark Table = 1116
-mark Gadget = 1103
+mark (Compile order) = 2109
+mark Check = 1101
+mark (Eval publics secrets) = 3097
+mark (Run publics secrets tape) = 5110
+mark (Count publics first second probes) = 5117
+mark Report = 1112
+mark (Gen turns) = 2110
+mark (Trial turns order) = 3105
+mark Table = 1098
+mark Gadget = 1100
+mark Regs = 1103
 
 -- words that ask for a command have its mark
 asks-marked : (words : List (List ℕ)) (command : Command) → Asks words command → mark_of words ≡ mark command
@@ -55,6 +56,7 @@ asks-marked words (Gen turns) asks = ap mark_of asks.1
 asks-marked words (Trial turns order) asks = ap mark_of asks.2
 asks-marked words Table asks = ap mark_of asks
 asks-marked words Gadget asks = ap mark_of asks
+asks-marked words Regs asks = ap mark_of asks
 
 -- a word says one order
 order-one : (word : List ℕ) (m n : ℕ) → IsOrder word m → IsOrder word n → m ≡ n
@@ -102,4 +104,5 @@ asks-one words (Trial m j) (Trial n k) first second =
     ∙ ap (Trial n) (order-one second.1 j k (subst (λ (w : List ℕ). IsOrder w j) two first.4) second.4)
 asks-one words Table Table first second = refl
 asks-one words Gadget Gadget first second = refl
+asks-one words Regs Regs first second = refl
 asks-one words a b first second = absurd (omega (arith, sym (asks-marked words a first) ∙ asks-marked words b second))

@@ -2,7 +2,7 @@
 use Rattle.std.specs.Prelude.{◌≡◌, ◌<◌, ◌^◌, ℕ, List, [], ◌∷◌, length, codes}
 use Rattle.mk_words.specs.declared.command.Form.{Form}
 use Rattle.mk_words.specs.declared.command.Form.TheVariants as form
-use Rattle.mk_words.specs.Words.{Compile, Check, Report, Gen, Trial, Table, Gadget, SaysElements, SaysSeed, SaysProbes, Asks}
+use Rattle.mk_words.specs.Words.{Compile, Check, Report, Gen, Trial, Table, Gadget, Regs, SaysElements, SaysSeed, SaysProbes, Asks}
 use Rattle.mk_words.specs.declared.command.TapeForm.{TapeForm}
 use Rattle.mk_words.specs.declared.command.TapeForm.TheVariants as tape_
 
@@ -42,3 +42,4 @@ AsksSo words (form.Gen turns) = Asks words (Gen turns)
 AsksSo words (form.Trial turns order) = Asks words (Trial turns order)
 AsksSo words form.Table = Asks words Table
 AsksSo words form.Gadget = Asks words Gadget
+AsksSo words form.Regs = Asks words Regs

@@ -11,8 +11,8 @@ pub data GivenTape : Type 0 where
 -- What the program is asked for: to compile a source at an order; to check a bundle; to evaluate a source on
 -- public inputs and secrets; to run the code of a bundle on them and a tape; to count the tapes of a bundle's code on
 -- public inputs, the secrets of two worlds and probes; to report on a bundle; to write the generator's text with so
--- many turns; to compile that text at an order; to write a source that gives the elements of a table; or to judge a
--- gadget.
+-- many turns; to compile that text at an order; to write a source that gives the elements of a table; to judge a
+-- gadget; or to allocate registers for the code of a bundle.
 pub data Command : Type 0 where
   Compile : ℕ → Command
   Check : Command
@@ -24,6 +24,7 @@ pub data Command : Type 0 where
   Trial : ℕ → ℕ → Command
   Table : Command
   Gadget : Command
+  Regs : Command
 
 -- the word is this order, one digit in the range of orders
 abbrev pub IsOrder : List ℕ → ℕ → Type 0
@@ -62,7 +63,7 @@ IsTurns word turns = (word ≡ decimal turns) × (1 ≤ turns) × (turns ≤ 327
 
 -- The words ask for this command: `compile` and an order; `check`; `eval`, the public inputs and the secrets;
 -- `run`, these and the tape; `count`, the public inputs, the secrets of the first world, those of the second and the
--- probes; `report`; `gen` and the turns; `trial`, the turns and an order; `table`; or `gadget`.
+-- probes; `report`; `gen` and the turns; `trial`, the turns and an order; `table`; `gadget`; or `regs`.
 abbrev pub Asks : List (List ℕ) → Command → Type 0
 Asks words (Compile order) = (word : List ℕ) × (words ≡ codes "compile" ∷ word ∷ []) × IsOrder word order
 Asks words Check = words ≡ codes "check" ∷ []
@@ -79,6 +80,7 @@ Asks words (Gen turns) = (word : List ℕ) × (words ≡ codes "gen" ∷ word �
 Asks words (Trial turns order) = (word second : List ℕ) × (words ≡ codes "trial" ∷ word ∷ second ∷ []) × IsTurns word turns × IsOrder second order
 Asks words Table = words ≡ codes "table" ∷ []
 Asks words Gadget = words ≡ codes "gadget" ∷ []
+Asks words Regs = words ≡ codes "regs" ∷ []
 
 -- the words are one of the forms
 abbrev pub IsForm : List (List ℕ) → Type 0

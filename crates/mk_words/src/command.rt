@@ -48,6 +48,8 @@ pub enum Form<'a> {
     Table,
     /// To judge a gadget.
     Gadget,
+    /// To allocate registers for the code of a bundle.
+    Regs,
 }
 
 /// Where a tape comes from, with its word of elements as it stands.
@@ -97,6 +99,9 @@ fn one_word<'a>(name: &[u8]) -> Option<Form<'a>>
     }
     if name == b"gadget".as_slice() {
         return Some(Form::Gadget);
+    }
+    if name == b"regs".as_slice() {
+        return Some(Form::Regs);
     }
     None
 }

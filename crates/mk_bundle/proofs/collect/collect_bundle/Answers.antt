@@ -4,13 +4,13 @@ use Rattle.std.proofs.lemmas.Result.{err_from_is_err_and}
 use Rattle.mk_code.specs.Listing.{Listing, IsListing}
 use Rattle.mk_rules.specs.Claimed.{Claimed}
 use Rattle.mk_rules.specs.declared.cert.Bundle.{Bundle}
-use Rattle.mk_bundle.specs.Pairs.{IsTextOf}
+use Rattle.mk_bundle.specs.Pairs.{IsBundleOf}
 use Rattle.mk_bundle.specs.declared.event.Event.TheVariants as event
 use Rattle.mk_bundle.specs.declared.refusal.StreamRefusal.{StreamRefusal}
 use Rattle.mk_bundle.specs.Reads.{Denies, Collects}
 use Rattle.mk_bundle.specs.Gathering.{Gathered, gathered_of, gather, nothing}
 use Rattle.mk_bundle.proofs.Coming.{comes_kept, comes_more, end_from}
-use Rattle.mk_bundle.proofs.Ending.{denies_later, last_completes}
+use Rattle.mk_bundle.proofs.Ending.{bundle_listing, denies_later, last_completes}
 use Rattle.mk_bundle.proofs.Gathering.{gather_none, gather_more, gather_pair}
 use Rattle.mk_bundle.proofs.collect.collect_bundle.Goals as goal
 
@@ -38,22 +38,22 @@ bundle_of-requires g c =
     let so = c.loop-parts.invariant.read in
     let h = c.in_ok-next.ensures.next so.0 so.1 so.3 in
     let done = last_completes c.in_ok-next.next c.next.new.self so.0 so.1 _ _ (c.is_last.ensures.0 c.if-is_last.true) h in
-    let same = gather_pair done.code done.cert so.1 (gathered_of c.loop-parts.parts) done.text.0.listing done.gave so.4 in
-    subst IsListing (sym same.0) done.text.0.listing
+    let same = gather_pair done.code done.cert so.1 (gathered_of c.loop-parts.parts) (bundle_listing (so.0 ++ h.came) done.code done.cert done.text) done.gave so.4 in
+    subst IsListing (sym same.0) (bundle_listing (so.0 ++ h.came) done.code done.cert done.text)
 
 pub returns-then-is_last-clause-collects : goal.returns-then-is_last-clause-collects
 returns-then-is_last-clause-collects g c =
     let so = c.loop-parts.invariant.read in
     let h = c.in_ok-next.ensures.next so.0 so.1 so.3 in
     let done = last_completes c.in_ok-next.next c.next.new.self so.0 so.1 _ _ (c.is_last.ensures.0 c.if-is_last.true) h in
-    let same = gather_pair done.code done.cert so.1 (gathered_of c.loop-parts.parts) done.text.0.listing done.gave so.4 in
+    let same = gather_pair done.code done.cert so.1 (gathered_of c.loop-parts.parts) (bundle_listing (so.0 ++ h.came) done.code done.cert done.text) done.gave so.4 in
     let code : c.bundle_of.result.code ≡ done.code = c.bundle_of.ensures.code ∙ same.0 in
     let cert : c.bundle_of.result.cert ≡ done.cert = c.bundle_of.ensures.cert ∙ same.1 in
     let limit : c.next.new.self.limit ≡ c.args.limit = c.next.ensures.limit ∙ c.loop-parts.invariant.limit in record {
       came = so.0 ++ h.came;
       comes = comes_more _ _ _ so.0 h.came so.2 h.comes;
       within = omega (arith, h.read.count, h.read.within, limit);
-      text = subst (λ (x : Listing). IsTextOf (so.0 ++ h.came) x c.bundle_of.result.cert) (sym code) (subst (λ (x : Claimed). IsTextOf (so.0 ++ h.came) done.code x) (sym cert) done.text);
+      text = subst (λ (x : Listing). IsBundleOf (so.0 ++ h.came) x c.bundle_of.result.cert) (sym code) (subst (λ (x : Claimed). IsBundleOf (so.0 ++ h.came) done.code x) (sym cert) done.text);
       end = end_from _ _ _ so.0 so.2 done.end;
     }
 

@@ -15,8 +15,8 @@ returns-in_default-number_at c =
     let more : c.args.count - c.loop.counter ≡ suc (c.args.count - (c.loop.counter + 1)) = omega arith in
     position_no_number c.loop.positions _ _ c.args.len c.loop.rest.now c.in-Some.word.now _ more c.in-Some.ensures c.in_default-number_at.ensures c.loop.invariant
 
-pub returns-then-position-len : goal.returns-then-position-len
-returns-then-position-len c =
+pub returns-then-from-len : goal.returns-then-from-len
+returns-then-from-len c =
     let more : c.args.count - c.loop.counter ≡ suc (c.args.count - (c.loop.counter + 1)) = omega arith in
     position_high c.loop.positions _ _ c.args.len c.loop.rest.now c.in-Some.word.now c.in-Some-number_at.behind.now c.in-Some-number_at.position _ more c.in-Some.ensures c.in-Some-number_at.ensures (omega arith) c.loop.invariant
 

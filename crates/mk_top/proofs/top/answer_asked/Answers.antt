@@ -1,11 +1,11 @@
 -- What is made is of the command that the words ask for.
 use Rattle.std.proofs.Common.{refl, subst}
-use Rattle.mk_words.specs.Words.{Compile, Check, Report, Gen, Trial, Table, Gadget}
+use Rattle.mk_words.specs.Words.{Compile, Check, Report, Gen, Trial, Table, Gadget, Regs}
 use Rattle.mk_words.specs.Forms.{AsksSo}
 use Rattle.mk_words.specs.declared.command.Form.TheVariants as form
 use Rattle.mk_top.specs.declared.answer.Answer.TheVariants as answer
 use Rattle.mk_top.specs.Seen.{seen}
-use Rattle.mk_top.proofs.Ends.{made-asked, unmade-asked, made-unread, unmade-unread, made-evaluated, unmade-evaluated, made-run, unmade-run, made-counted, unmade-counted, asked-leaves, text-answered, bundle-answered, fault-answered}
+use Rattle.mk_top.proofs.Ends.{made-asked, unmade-asked, made-unread, unmade-unread, made-evaluated, unmade-evaluated, made-run, unmade-run, made-counted, unmade-counted, asked-leaves, text-answered, bundle-answered, registers-answered, fault-answered}
 use Rattle.mk_top.proofs.top.answer_asked.Goals as goal
 
 pub returns-in-Some-Compile-clause-made : goal.returns-in-Some-Compile-clause-made
@@ -176,3 +176,19 @@ pub returns-in-Some-Gadget-clause-leaves : goal.returns-in-Some-Gadget-clause-le
 returns-in-Some-Gadget-clause-leaves g c =
     asked-leaves c.args.words.now form.Gadget _
     (subst (AsksSo c.args.words.now) c.in-Some-Gadget.field-0-is (c.in-Some-Gadget.ensures).asked) tt
+
+pub returns-in-Some-Regs-clause-made : goal.returns-in-Some-Regs-clause-made
+returns-in-Some-Regs-clause-made g c =
+    registers-answered c.args.words.now Regs (seen g.S.Source.left g.S.Source.faults c.args.src.now c.allocated_bundle.new.src) c.allocated_bundle.result c.registers_answer.result
+    c.registers_answer.ensures (subst (AsksSo c.args.words.now) c.in-Some-Regs.field-0-is (c.in-Some-Regs.ensures).asked) c.allocated_bundle.ensures.made c.allocated_bundle.ensures.pair
+
+pub returns-in-Some-Regs-clause-unmade : goal.returns-in-Some-Regs-clause-unmade
+returns-in-Some-Regs-clause-unmade g c =
+    fault-answered answer.Registers _ c.allocated_bundle.result c.registers_answer.result c.registers_answer.ensures
+    (unmade-asked c.args.words.now Regs (seen g.S.Source.left g.S.Source.faults c.args.src.now c.allocated_bundle.new.src) c.allocated_bundle.result
+    (subst (AsksSo c.args.words.now) c.in-Some-Regs.field-0-is (c.in-Some-Regs.ensures).asked) c.allocated_bundle.ensures.unmade)
+
+pub returns-in-Some-Regs-clause-leaves : goal.returns-in-Some-Regs-clause-leaves
+returns-in-Some-Regs-clause-leaves g c =
+    asked-leaves c.args.words.now form.Regs _
+    (subst (AsksSo c.args.words.now) c.in-Some-Regs.field-0-is (c.in-Some-Regs.ensures).asked) tt

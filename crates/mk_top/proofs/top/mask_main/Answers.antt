@@ -1,7 +1,7 @@
 -- Each way that a run ends has one answer.
 use Rattle.std.proofs.Common.{IfSome, sym, ◌∙◌, subst}
-use Rattle.mk_bundle.proofs.Naming.{differ}
-use Rattle.mk_words.specs.Words.{Compile, Eval, Run, Count, Report, Gen, Trial, Table, Gadget}
+use Rattle.mk_bundle.proofs.Versions.{read_once}
+use Rattle.mk_words.specs.Words.{Compile, Eval, Run, Count, Report, Gen, Trial, Table, Gadget, Regs}
 use Rattle.mk_words.specs.declared.status.Status.{Status}
 use Rattle.mk_top.specs.Decided.{Decides}
 use Rattle.mk_top.specs.Seen.{seen}
@@ -59,6 +59,11 @@ returns-in-Ok-clause-judged g c asks done =
     let at = finished-at _ Gadget _ _ c.in-Ok.ensures.finished asks in
     (at.written, at.made.makes, at.whole)
 
+pub returns-in-Ok-clause-allocated : goal.returns-in-Ok-clause-allocated
+returns-in-Ok-clause-allocated g c asks done =
+    let at = finished-at _ Regs _ _ c.in-Ok.ensures.finished asks in
+    (at.written, at.made.makes, at.whole)
+
 pub returns-in-Ok-clause-unread : goal.returns-in-Ok-clause-unread
 returns-in-Ok-clause-unread g c command asks unread = left-unread _ command _ c.carry_out.ensures.leaves asks unread
 
@@ -67,7 +72,7 @@ returns-in-Err-clause-unread g c command asks unread = left-unread _ command _ c
 
 pub returns-in-Ok-clause-decided : goal.returns-in-Ok-clause-decided
 returns-in-Ok-clause-decided g c command answer asks calm still =
-    finished-decided differ _ command _ _ answer (finished-at _ command _ _ c.in-Ok.ensures.finished asks) asks
+    finished-decided read_once _ command _ _ answer (finished-at _ command _ _ c.in-Ok.ensures.finished asks) asks
 
 pub returns-in-Err-clause-cut : goal.returns-in-Err-clause-cut
 returns-in-Err-clause-cut g c command asks is =
@@ -83,7 +88,7 @@ pub returns-in-Err-clause-decided : goal.returns-in-Err-clause-decided
 returns-in-Err-clause-decided g c command answer asks calm still =
     let at = stopped-at _ _ _ command c.in-Err.fault asks c.in-Err.ensures.stopped in
     subst (λ (s : Status). IfSome (input_of command (g.S.Source.left c.args.src.now)) (λ bytes. Decides command bytes answer → IsOrMemory s (answer_status answer))) (sym c.status.ensures)
-    (stopped-decided differ _ command _ _ c.in-Err.fault answer asks at calm still)
+    (stopped-decided read_once _ command _ _ c.in-Err.fault answer asks at calm still)
 
 pub returns-in-Err-clause-answers : goal.returns-in-Err-clause-answers
 returns-in-Err-clause-answers g c command asks =

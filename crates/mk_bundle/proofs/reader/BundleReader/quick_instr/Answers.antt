@@ -2,7 +2,9 @@
 use Rattle.std.proofs.Common.{◌≡◌, ℕ, ◌+◌, true, List, drop, None, sym, ap, subst, ◌∙◌}
 use Rattle.mk_bundle.specs.declared.draft.Stage.TheVariants.{Lower}
 use Rattle.mk_bundle.specs.declared.event.Event.TheVariants as event
+use Rattle.mk_bundle.specs.declared.notes.Form.TheVariants as form
 use Rattle.mk_bundle.specs.Counting.{Seen, seen_of, instr_counts}
+use Rattle.mk_bundle.specs.Noting.{Noted, noted_of}
 use Rattle.mk_bundle.specs.Taking.{Held, IsInstrLine}
 use Rattle.mk_bundle.specs.Reads.{Reader}
 use Rattle.mk_bundle.specs.Stepping.{Tells}
@@ -14,16 +16,17 @@ pub returns-clause-some : goal.returns-clause-some
 returns-clause-some c =
     let i = c.in_ok-instr.instr in
     let len = c.in_ok-instr.len in
-    let was : Reader = record { seen = seen_of c.self.inside.draft; waiting = c.self.inside.waiting; lines = c.self.inside.lines; pending = c.self.inside.input.pending; count = c.self.inside.input.count; limit = c.self.inside.input.limit } in
+    let was : Reader = record { noted = noted_of c.self.inside.notes; waiting = c.self.inside.waiting; lines = c.self.inside.lines; pending = c.self.inside.input.pending; count = c.self.inside.input.count; limit = c.self.inside.input.limit } in
     let h : IsInstrLine i len was.pending = c.in_ok-instr.ensures.some in
-    let left : Seen = record was.seen { instrs = was.seen.instrs + 1 } in
-    let mid : Reader = record { seen = seen_of c.count_instr.new.draft; waiting = c.self.inside.waiting; lines = c.self.inside.lines + 1; pending = c.pass.new.self.pending; count = c.pass.new.self.count; limit = c.pass.new.self.limit } in
+    let left : Noted = record was.noted { seen = record was.noted.seen { instrs = was.noted.seen.instrs + 1 } } in
+    let mid : Reader = record { noted = record was.noted { seen = seen_of c.count_instr.new.draft }; waiting = c.self.inside.waiting; lines = c.self.inside.lines + 1; pending = c.pass.new.self.pending; count = c.pass.new.self.count; limit = c.pass.new.self.limit } in
     let behind : drop (len + 1) was.pending ≡ h.behind = ap (λ (n : ℕ). drop (n + 1) was.pending) (sym h.len) ∙ behind_line was.pending h.line h.behind h.here in
     let held : c.pass.new.self ≡ record c.self.inside.input { pending = h.behind } = c.pass.ensures ∙ ap (λ (p : List ℕ). record c.self.inside.input { pending = p }) behind in
-    let is : mid ≡ record was { seen = left; lines = was.lines + 1; pending = h.behind } =
-    ap (λ (s : Seen). record was { seen = s; lines = was.lines + 1; pending = c.pass.new.self.pending; count = c.pass.new.self.count; limit = c.pass.new.self.limit }) c.count_instr.ensures
-    ∙ ap (λ (n : Held). record was { seen = left; lines = was.lines + 1; pending = n.pending; count = n.count; limit = n.limit }) held in
+    let is : mid ≡ record was { noted = left; lines = was.lines + 1; pending = h.behind } =
+    ap (λ (s : Seen). record was { noted = record was.noted { seen = s }; lines = was.lines + 1; pending = c.pass.new.self.pending; count = c.pass.new.self.count; limit = c.pass.new.self.limit }) c.count_instr.ensures
+    ∙ ap (λ (n : Held). record was { noted = left; lines = was.lines + 1; pending = n.pending; count = n.count; limit = n.limit }) held in
     let free : was.waiting ≡ None = ap (λ (r : Reader). r.waiting) c.self.view_is ∙ c.requires in
-    let lower : was.seen.stage ≡ Lower = c.is_lower.ensures.0 c.if-not-is_lower.false in
-    let counts : instr_counts was.seen i ≡ true = sym c.may_instr.ensures.counts ∙ c.if-not-may_instr.false in
-    subst (λ (o : Reader). Tells (event.Instr i) o mid) c.self.view_is (instr_told was mid i len h free lower counts is)
+    let over : was.noted.form ≡ form.Positions = c.is_over_positions.ensures.0 c.if-not-is_over_positions.false in
+    let lower : was.noted.seen.stage ≡ Lower = c.is_lower.ensures.0 c.if-not-is_lower.false in
+    let counts : instr_counts was.noted.seen i ≡ true = sym c.may_instr.ensures.counts ∙ c.if-not-may_instr.false in
+    subst (λ (o : Reader). Tells (event.Instr i) o mid) c.self.view_is (instr_told was mid i len h free over lower counts is)

@@ -26,7 +26,7 @@ pub returns-in-Told-clause-next : goal.returns-in-Told-clause-next
 returns-in-Told-clause-next g c = λ taken events r. (
     let so = c.loop-event.invariant.read taken events r in
     let tells = c.in-Told.ensures in
-    next_told c.in-Told.event c.step.new.self taken so.0 events _ _ so.1 (tells.read (taken ++ so.0) events so.2) tells.other)
+    next_told c.in-Told.event c.step.new.self taken so.0 events _ _ so.1 (tells.read (taken ++ so.0) events so.2) (tells.renames (taken ++ so.0) events so.2) tells.other)
 
 pub loop-event-preserved-in-Quiet : goal.loop-event-preserved-in-Quiet
 loop-event-preserved-in-Quiet g c =
@@ -63,7 +63,7 @@ returns-then-count-eq0-clause-next g c = λ taken events r. (
     let starves = c.in-Starved.ensures in
     let mid = c.step.new.self in
     let read : Read mid (taken ++ so.0) events = subst (λ (x : Reader). Read x (taken ++ so.0) events) (sym starves.same) so.2 in
-    let going : IsGoing mid = λ ended. c.loop-event.invariant.going (sym (ap (λ (x : Reader). x.seen.stage) starves.same) ∙ ended) in
+    let going : IsGoing mid = λ ended. c.loop-event.invariant.going (sym (ap (λ (x : Reader). x.noted.seen.stage) starves.same) ∙ ended) in
     let clean : is_line mid.pending ≡ true = ap (λ (x : Reader). is_line x.pending) starves.same ∙ starves.clean in
     let grown : Grown 0 mid c.fill.new.self (g.S.Source.left c.loop-event.src) (g.S.Source.left c.fill.new.src) =
     subst (λ (n : ℕ). Grown n mid c.fill.new.self (g.S.Source.left c.loop-event.src) (g.S.Source.left c.fill.new.src)) c.if-count-eq0.true c.in_ok-count-in-Starved.ensures.grows in
@@ -80,7 +80,7 @@ loop-event-preserved g c =
     let waits : mid.waiting ≡ None = ap (λ (x : Reader). x.waiting) starves.same ∙ c.loop-event.invariant.waiting in
     let before : to_come mid ≡ to_come c.loop-event.self = ap to_come starves.same in
     let later : to_come new ≡ 2 * (mid.limit - (mid.count + n)) + length (mid.pending ++ grown.came) + length (listed mid.waiting) = ap to_come grown.held in record {
-      going = λ ended. c.loop-event.invariant.going (sym (ap (λ (x : Reader). x.seen.stage) (grown.held) ∙ ap (λ (x : Reader). x.seen.stage) starves.same) ∙ ended);
+      going = λ ended. c.loop-event.invariant.going (sym (ap (λ (x : Reader). x.noted.seen.stage) (grown.held) ∙ ap (λ (x : Reader). x.noted.seen.stage) starves.same) ∙ ended);
       waiting = ap (λ (x : Reader). x.waiting) grown.held ∙ waits;
       limit = ap (λ (x : Reader). x.limit) grown.held ∙ ap (λ (x : Reader). x.limit) starves.same ∙ c.loop-event.invariant.limit;
       fewer = omega (arith, before, later, length-append mid.pending grown.came, grown.number, grown.within, c.loop-event.invariant.fewer);
