@@ -20,7 +20,7 @@ pub use plain::{DropSink, SureSource};
 pub use streams::{ReadRefusal, read_all, write_all};
 
 /// The greatest masking order: a value is held as at most `TOP_ORDER + 1` shares.
-pub const TOP_ORDER: u8 = 8;
+pub const TOP_ORDER: u8 = 15;
 
 /// A place in a text. Both numbers are counted from 1, the column in bytes. Wherever sources are spoken of, a
 /// place is one of these: where an element stands in its array is its index, and where a declaration stands

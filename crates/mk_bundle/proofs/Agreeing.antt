@@ -14,10 +14,11 @@ use Rattle.mk_code.specs.declared.instr.Instr.{Instr}
 use Rattle.mk_code.specs.declared.TheConstants.{MOST_INPUTS, MOST_INSTRS}
 use Rattle.mk_code.specs.Listing.{Listing, trace_len}
 use Rattle.mk_regs.specs.Renaming.{outs_refusal, first_refusal}
-use Rattle.mk_rules.specs.declared.TheConstants.{TEXT_TOP_ORDER, MOST_BLOCKS, MOST_CLAIMS}
+use Rattle.mk_rules.specs.declared.TheConstants.{MOST_BLOCKS, MOST_CLAIMS}
 use Rattle.mk_rules.specs.Claimed.{Claimed}
 use Rattle.mk_lines.specs.Parsing.{field_of, ◌>>=◌, after, map_of, operand_of, op_of, instr_of, positions_of, behind}
 use Rattle.mk_lines.proofs.Spelled.{positions_found}
+use Rattle.mk_bundle.specs.declared.TheConstants.{TEXT_TOP_ORDER}
 use Rattle.mk_bundle.specs.declared.draft.Stage.{Stage}
 use Rattle.mk_bundle.specs.declared.draft.Stage.TheVariants.{Version, Field, Order, Secrets, Publics, Upper, Lower, Ended}
 use Rattle.mk_bundle.specs.declared.notes.Form.TheVariants as form
@@ -218,11 +219,11 @@ field_agrees R code cert seen l holds = by (field_of l)
     by (Some f) = holds f
 
 -- the line of the order
-pub order_agrees : (R : Left) (code : Listing) (cert : Claimed) (seen : Seen) (l : List ℕ)
+pub order_agrees : (R : Left) (most : ℕ) (code : Listing) (cert : Claimed) (seen : Seen) (l : List ℕ)
     → ((n : ℕ) → R (at Secrets (record code { order = n }) cert) None (record seen { stage = Secrets; order = n }))
-    → AgreesBy R (order_counted seen l) (order_read (at Order code cert) l)
+    → AgreesBy R (order_counted most seen l) (order_read most (at Order code cert) l)
 unfolding order_counted order_read
-order_agrees R code cert seen l holds = by (headed (codes "order ") TEXT_TOP_ORDER l)
+order_agrees R most code cert seen l holds = by (headed (codes "order ") most l)
   where
     which : (n : ℕ) (b : Bool) → AgreesBy R (if b then None else Some (record seen { stage = Secrets; order = n }, None)) (if b then None else Some (at Secrets (record code { order = n }) cert))
     which n true = tt
@@ -507,7 +508,7 @@ counted_agrees : (stage : Stage) (code : Listing) (cert : Claimed) (l : List ℕ
 unfolding counted_at read_at
 counted_agrees Version code cert l begun good = absurd (begun refl)
 counted_agrees Field code cert l begun good = field_agrees (PositionsLeft (at Field code cert)) code cert (summary (at Field code cert) code.maps) l (λ field. (refl, refl))
-counted_agrees Order code cert l begun good = order_agrees (PositionsLeft (at Order code cert)) code cert (summary (at Order code cert) code.maps) l (λ n. (refl, refl))
+counted_agrees Order code cert l begun good = order_agrees (PositionsLeft (at Order code cert)) TEXT_TOP_ORDER code cert (summary (at Order code cert) code.maps) l (λ n. (refl, refl))
 counted_agrees Secrets code cert l begun good = secrets_agrees (PositionsLeft (at Secrets code cert)) code cert (summary (at Secrets code cert) code.maps) l (λ n. (refl, refl))
 counted_agrees Publics code cert l begun good =
     publics_agrees (PositionsLeft (at Publics code cert)) code cert (summary (at Publics code cert) code.maps) l (λ n. (rw (good.blank.blocks, good.blank.claims) refl, rw (good.blank.blocks, good.blank.claims) refl))

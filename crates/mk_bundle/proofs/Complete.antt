@@ -6,6 +6,7 @@ use Rattle.std.proofs.lemmas.Bool.{lt-ltb, le-ltb, and_from}
 use Rattle.std.proofs.lemmas.List.{append-nil, nil_from_length, take-append-drop, length-take-le, length-drop}
 use Rattle.std.proofs.lemmas.Grind.{flat_map-append}
 use Rattle.std.proofs.Math.Nat.{mul-div_cancel, mul-le-mul}
+use Rattle.mk_base.specs.declared.TheConstants.{TOP_ORDER}
 use Rattle.mk_field.specs.declared.field.FieldId.{FieldId}
 use Rattle.mk_field.specs.declared.field.FieldId.TheVariants.{Gf2, Gf256}
 use Rattle.mk_field.specs.declared.map.AddMap.{AddMap}
@@ -25,7 +26,8 @@ use Rattle.mk_field.specs.Maps.{MapFits}
 use Rattle.mk_field.proofs.Raised.{element-byte}
 use Rattle.mk_bundle.specs.Text.{number_line, head_lines, text}
 use Rattle.mk_lines.specs.Lines.{AreLines}
-use Rattle.mk_rules.specs.Pairs.{IsPair}
+use Rattle.mk_bundle.specs.Pairs.{IsTextPair}
+use Rattle.mk_bundle.specs.declared.TheConstants.{TEXT_TOP_ORDER}
 use Rattle.mk_bundle.specs.declared.draft.Stage.TheVariants.{Field, Order, Secrets, Publics, Upper, Lower, Ended}
 use Rattle.mk_lines.specs.Parsing.{field_of, ◌>>=◌, after, positions_of}
 use Rattle.mk_bundle.specs.Reading.{State, start, version_line, field_read, headed, order_read, secrets_read, publics_read, may_map, map_read, may_block, block_read, claim_read, code_read, upper_read, fits_at, may_instr, instr_read, out_read, lower_read, read_at, line_read, lines_read}
@@ -125,11 +127,11 @@ unfolding headed
 headed_again name most n few small = rw (after_again name (decimal n), number_of_again n small, le-ltb most n few) refl
 
 -- the order's line leads on to that of the number of secrets
-order_runs : (field : FieldId) (n : ℕ) → 1 ≤ n → n ≤ 8 → Runs (at Order (head_only field 1 0 0) no_cert) (number_line (codes "order") n) (at Secrets (head_only field n 0 0) no_cert)
+order_runs : (field : FieldId) (n : ℕ) → 1 ≤ n → n ≤ TEXT_TOP_ORDER → Runs (at Order (head_only field 1 0 0) no_cert) (number_line (codes "order") n) (at Secrets (head_only field n 0 0) no_cert)
 unfolding order_read read_at
 order_runs field n low few =
     one_runs (at Order (head_only field 1 0 0) no_cert) (at Secrets (head_only field n 0 0) no_cert) (codes "order " ++ decimal n) (is_line-decimal n (omega arith))
-    (rw (headed_again (codes "order ") 8 n few (omega arith), le-ltb n 1 low) refl)
+    (rw (headed_again (codes "order ") TEXT_TOP_ORDER n few (omega arith), le-ltb n 1 low) refl)
 
 -- the line of the number of secrets leads on to that of the number of publics
 secrets_run : (field : FieldId) (order n : ℕ) → n ≤ 65536 → Runs (at Secrets (head_only field order 0 0) no_cert) (number_line (codes "secrets") n) (at Publics (head_only field order n 0) no_cert)
@@ -146,9 +148,9 @@ publics_run field order secrets n few =
     (rw (headed_again (codes "publics ") 65536 n few (omega arith)) refl)
 
 -- the lines of the head lead from the start to what stands between the head and the code
-head_runs : (code : Listing) → IsListing code → Runs start (head_lines code) (at Upper (head_only code.field code.order code.secrets code.publics) no_cert)
-head_runs code listing =
-    both_run _ _ _ _ _ (both_run _ _ _ _ _ (both_run _ _ _ _ _ (both_run _ _ _ _ _ version_runs (field_runs code.field)) (order_runs code.field code.order listing.order.0 listing.order.1))
+head_runs : (code : Listing) → IsListing code → code.order ≤ TEXT_TOP_ORDER → Runs start (head_lines code) (at Upper (head_only code.field code.order code.secrets code.publics) no_cert)
+head_runs code listing most =
+    both_run _ _ _ _ _ (both_run _ _ _ _ _ (both_run _ _ _ _ _ (both_run _ _ _ _ _ version_runs (field_runs code.field)) (order_runs code.field code.order listing.order.0 most))
     (secrets_run code.field code.order code.secrets listing.secrets)) (publics_run code.field code.order code.secrets code.publics listing.publics)
 
 -- ---- maps, blocks and claims
@@ -232,10 +234,10 @@ instr_fits field maps len (instr.Sq from) few short fits = omega (arith, fits)
 instr_fits field maps len (instr.Map map from) few short fits = (omega (arith, fits.0), omega (arith, fits.1))
 
 -- within the limits the inputs and the instructions are less than 2^32 entries
-pub short_trace : (order secrets publics n : ℕ) → order ≤ 8 → secrets ≤ 65536 → publics ≤ 65536 → n ≤ 8388608 → inputs_len order secrets publics + n < 2 ^ 32
+pub short_trace : (order secrets publics n : ℕ) → order ≤ TOP_ORDER → secrets ≤ 65536 → publics ≤ 65536 → n ≤ 8388608 → inputs_len order secrets publics + n < 2 ^ 32
 short_trace order secrets publics n low few_secrets few_publics few =
-    let more : order + 1 ≤ 9 = omega arith in
-    let product : secrets * (order + 1) ≤ 65536 * 9 = mul-le-mul few_secrets more in
+    let more : order + 1 ≤ TOP_ORDER + 1 = omega (arith, low) in
+    let product : secrets * (order + 1) ≤ 65536 * (TOP_ORDER + 1) = mul-le-mul few_secrets more in
     omega (arith, product)
 
 -- where all instructions fit, each fits behind those before it
@@ -335,11 +337,12 @@ all_outs_run code cert listing =
     (outs_run code cert short (all_by (trace_len code) code.outs listing.outs) (omega (arith, all, most)) outputs code.outs [] all refl)
 
 -- the lines of the text of a pair lead from the start to the pair
-pub text_runs : (code : Listing) (cert : Claimed) → IsPair code cert → Runs start (text code cert) (at Ended code cert)
-text_runs code cert pair =
+pub text_runs : (code : Listing) (cert : Claimed) → IsTextPair code cert → Runs start (text code cert) (at Ended code cert)
+text_runs code cert has =
+    let pair = has.pair in
     let listing = pair.listing in
     let maps = many_run map_line (with_maps code) code.maps (map_runs code listing pair.maps) code.maps [] refl in
     let blocks = many_run op_line (λ (bs : List Op). with_cert code bs []) cert.blocks (block_runs code cert.blocks pair.blocks pair.few_blocks) cert.blocks [] refl in
     let claims = many_run claim_line (λ (vs : List Operand). with_cert code cert.blocks vs) cert.claims (claim_runs code cert.blocks cert.claims pair.claims pair.few_claims) cert.claims [] refl in
     let instrs = many_run instr_line (with_instrs code cert) code.instrs (instr_runs code cert listing) code.instrs [] refl in
-    both_run _ _ _ _ _ (both_run _ _ _ _ _ (both_run _ _ _ _ _ (both_run _ _ _ _ _ (both_run _ _ _ _ _ (both_run _ _ _ _ _ (both_run _ _ _ _ _ (head_runs code listing) maps) blocks) claims) (code_runs code cert)) instrs) (all_outs_run code cert listing)) (end_runs code cert)
+    both_run _ _ _ _ _ (both_run _ _ _ _ _ (both_run _ _ _ _ _ (both_run _ _ _ _ _ (both_run _ _ _ _ _ (both_run _ _ _ _ _ (both_run _ _ _ _ _ (head_runs code listing has.order) maps) blocks) claims) (code_runs code cert)) instrs) (all_outs_run code cert listing)) (end_runs code cert)

@@ -23,9 +23,11 @@ use Rattle.mk_bundle.specs.Reading.{read_at}
 use Rattle.mk_bundle.specs.RegisterReading.{register_read_at}
 use Rattle.mk_bundle.specs.Versions.{Partial, Positions, Registers, stage_of, claimed_of, register_code, partial_read, events_so_far, untold}
 use Rattle.mk_bundle.specs.Noting.{Noted, noted, refusal_in}
+use Rattle.mk_bundle.specs.Standing.{event_text}
 use Rattle.mk_bundle.specs.Taking.{Comes}
-use Rattle.mk_bundle.specs.Reads.{Reader, IsGoing, Read, Follows, Misnames, Completes, Denies, Answers, EndsWith, Next}
+use Rattle.mk_bundle.specs.Reads.{Reader, IsGoing, listed, Read, Follows, Misnames, Completes, Denies, Answers, EndsWith, Next}
 use Rattle.mk_bundle.specs.Stepping.{GoesWrong, Refused, Grown, Ending, end_of, stream_of}
+use Rattle.mk_bundle.proofs.Naming.{text_pair}
 use Rattle.mk_bundle.proofs.Reaching.{GoodSoFar, text_of, Stuck, reached, whole_text}
 use Rattle.mk_bundle.proofs.Coming.{comes_more, end_kept, end_from}
 use Rattle.mk_bundle.proofs.Following.{follows}
@@ -48,7 +50,7 @@ reads_more old new n before after taken events free g r = subst (λ (x : Reader)
   count = omega (arith, r.count, g.number, length-append taken g.came);
   within = g.within;
   waits = r.waits;
-  short = λ own stand. omega (arith, g.short, ap (λ (x : Reader). length x.pending) g.held, ap length (none_stand old.waiting free own stand), length-append own (old.pending ++ g.came));
+  short = omega (arith, g.short, ap (λ (x : Reader). length x.pending) g.held, ap length (none_stand old.waiting free), length-append (flat_map event_text (listed old.waiting)) (old.pending ++ g.came));
 })
 
 -- the same of register code that can't be renamed
@@ -111,7 +113,7 @@ wrong_behind old taken events r ended some =
 whole_pair : (p : Partial) (bytes : List ℕ) (all : List Event) → GoodSoFar p → bytes ≡ text_of p → stage_of p ≡ Ended → refusal_in (noted p (untold p)).form ≡ None → events_so_far p ≡ Some all
     → (code : Listing) × IsBundleOf bytes code (claimed_of p) × (all ≡ events_of code (claimed_of p))
 whole_pair (Positions st) bytes all good is ended none some =
-    (st.code, inl (good.0.pair, is), sym (same_some (events_at st.stage st.code st.cert) all some) ∙ ap (λ (s : Stage). events_at s st.code st.cert) ended)
+    (st.code, inl (text_pair st good.0, is), sym (same_some (events_at st.stage st.code st.cert) all some) ∙ ap (λ (s : Stage). events_at s st.code st.cert) ended)
 whole_pair (Registers st) bytes all good is ended none some =
     let runs : refusal_of (register_code st) ≡ None = clean_runs st (untold (Registers st)) good.0 none in
     let told : events_so_far (Registers st) ≡ Some (events_at st.shared.stage (renamed (register_code st)) st.shared.cert) = rw runs refl in (
@@ -248,7 +250,7 @@ denies_end old new line before after taken events clean going r grown is =
 
 -- the code of a bundle fits together
 pub bundle_listing : (bytes : List ℕ) (code : Listing) (cert : Claimed) → IsBundleOf bytes code cert → IsListing code
-bundle_listing bytes code cert (inl is) = is.0.listing
+bundle_listing bytes code cert (inl is) = is.0.pair.listing
 bundle_listing bytes code cert (inr is) = subst IsListing is.2.same (renamed-fits is.0 is.1.0.listing is.2.runs)
 
 -- the last event comes with the text of the pair

@@ -13,6 +13,7 @@ pub mod Owning
 pub mod Ending
 pub mod Gathering
 pub mod Instrs
+pub mod Intos
 pub mod Leading
 pub mod RegisterComplete
 pub mod RegisterSound

@@ -1,15 +1,17 @@
 -- The last event comes with the last line only.
 use Rattle.std.proofs.Common.{◌≡◌, ℕ, ◌+◌, ◌*◌, Bool, true, false, List, map, Option, Some, None, refl, subst, if◌then◌else◌}
 use Rattle.std.specs.Prelude.{◌^◌, codes, bytes_eq, nat_lt, is_some, IfSome}
+use Rattle.mk_base.specs.declared.TheConstants.{TOP_ORDER}
 use Rattle.mk_code.specs.declared.TheConstants.{MOST_INPUTS}
 use Rattle.mk_code.specs.Listing.{inputs_len}
 use Rattle.mk_regs.specs.declared.TheConstants.{MOST_REGISTERS}
 use Rattle.mk_regs.specs.declared.instr.RegInstr.{RegInstr}
 use Rattle.mk_regs.specs.Form.{into_register}
 use Rattle.mk_regs.specs.Renaming.{position_in, renamed_instr, instr_refusal, outs_refusal}
-use Rattle.mk_rules.specs.declared.TheConstants.{TEXT_TOP_ORDER, MOST_CLAIMS}
+use Rattle.mk_rules.specs.declared.TheConstants.{MOST_CLAIMS}
 use Rattle.mk_lines.specs.Parsing.{field_of, ◌>>=◌, after, map_of, operand_of, op_of, instr_of, into_of, positions_of, behind}
 use Rattle.mk_bundle.specs.Reading.{headed}
+use Rattle.mk_bundle.specs.declared.TheConstants.{TEXT_TOP_ORDER}
 use Rattle.mk_bundle.specs.declared.draft.Stage.{Stage}
 use Rattle.mk_bundle.specs.declared.draft.Stage.TheVariants.{Version, Field, Order, Secrets, Publics, Upper, Lower, Ended}
 use Rattle.mk_bundle.specs.declared.event.Event.{Event}
@@ -107,12 +109,17 @@ lower_marks seen l other =
     if_behind Counts (after (codes "out") l) (out_counted seen) _ (λ words. out_marks seen words other)
     (if_chosen Counts (bytes_eq l (codes "end")) _ (instr_counted seen l) ((λ e. refl), (λ e. refl)) (instr_marks seen l other))
 
+-- the line of the order
+order_marks : (most : ℕ) (seen : Seen) (l : List ℕ) → IfSome (order_counted most seen l) Counts
+unfolding order_counted
+order_marks most seen l = if_bind Counts (headed (codes "order ") most l) _ (λ n. if_chosen Counts (nat_lt n 1) None _ tt (quiet None Secrets tt (λ e. absurd cc)))
+
 -- any line that is counted
 counted_marks : (stage : Stage) (seen : Seen) (l : List ℕ) → (seen.stage ≡ Ended → ⊥) → IfSome (counted_at stage seen l) Counts
-unfolding counted_at version_counted field_counted order_counted secrets_counted publics_counted
+unfolding counted_at version_counted field_counted secrets_counted publics_counted
 counted_marks Version seen l other = if_chosen Counts (bytes_eq l (codes "mask 1")) _ None (quiet None Field tt (λ e. absurd cc)) tt
 counted_marks Field seen l other = if_bind Counts (field_of l) _ (λ f. quiet None Order tt (λ e. absurd cc))
-counted_marks Order seen l other = if_bind Counts (headed (codes "order ") TEXT_TOP_ORDER l) _ (λ n. if_chosen Counts (nat_lt n 1) None _ tt (quiet None Secrets tt (λ e. absurd cc)))
+counted_marks Order seen l other = order_marks TEXT_TOP_ORDER seen l
 counted_marks Secrets seen l other = if_bind Counts (headed (codes "secrets ") MOST_INPUTS l) _ (λ n. quiet None Publics tt (λ e. absurd cc))
 counted_marks Publics seen l other = if_bind Counts (headed (codes "publics ") MOST_INPUTS l) _ (λ n. quiet None Upper tt (λ e. absurd cc))
 counted_marks Upper seen l other = upper_marks seen l other
@@ -211,7 +218,7 @@ register_marks : (stage : Stage) (f : Form) (seen : Seen) (l : List ℕ) → (se
 unfolding register_noted
 register_marks Version f seen l other = tt
 register_marks Field f seen l other = kept_marks f Field seen l other
-register_marks Order f seen l other = kept_marks f Order seen l other
+register_marks Order f seen l other = kept f (order_counted TOP_ORDER seen l) (order_marks TOP_ORDER seen l)
 register_marks Secrets f seen l other = kept_marks f Secrets seen l other
 register_marks Publics f seen l other = kept_marks f Publics seen l other
 register_marks Upper f seen l other = noted_upper_marks f seen l other

@@ -8,8 +8,7 @@ use Rattle.mk_lines.specs.Words.{line}
 use Rattle.mk_lines.specs.CertLines.{op_line, claim_line}
 use Rattle.mk_lines.specs.CodeLines.{field_line, map_line, instr_line, out_lines}
 use Rattle.mk_bundle.specs.Text.{number_line, head_lines, upper_text, lower_text, text}
-use Rattle.mk_rules.specs.Pairs.{IsPair}
-use Rattle.mk_bundle.specs.Pairs.{TextsDiffer}
+use Rattle.mk_bundle.specs.Pairs.{IsTextPair, TextsDiffer}
 use Rattle.mk_bundle.specs.declared.draft.Stage.{Stage}
 use Rattle.mk_bundle.specs.declared.draft.Stage.TheVariants.{Version, Field, Order, Secrets, Publics, Upper, Lower, Ended}
 use Rattle.mk_lines.specs.Parsing.{◌>>=◌}
@@ -27,13 +26,17 @@ GoodAt st = Good st.stage st.code st.cert
 abbrev pub so_far : State → List ℕ
 so_far st = text_at st.stage st.code st.cert
 
+-- what was read so far has a text
+pub text_pair : (st : State) → GoodAt st → IsTextPair st.code st.cert
+text_pair st good = record { pair = good.pair; order = good.order }
+
 -- ---- what was read
 
 -- nothing read yet is good
 pub start_good : GoodAt start
 start_good =
     let fresh : IsFresh start.code start.cert = record { maps = refl; instrs = refl; outs = refl; blocks = refl; claims = refl } in
-    record { pair = fresh_pair start.code start.cert fresh (omega arith, omega arith) (omega arith) (omega arith); blank = fresh }
+    record { pair = fresh_pair start.code start.cert fresh (omega arith, omega arith) (omega arith) (omega arith); order = omega arith; blank = fresh }
 
 -- lines that are read from a good state lead to a good one, and its text is longer by just these lines
 all_go : (lines : List (List ℕ)) (from to : State) → GoodAt from → lines_read from lines ≡ Some to → GoodAt to × (so_far to ≡ so_far from ++ flat_map line lines)
@@ -109,8 +112,3 @@ differ bytes rest code other_code cert other_cert whole front =
         let same : at Ended other_code other_cert ≡ at Ended code cert = same_some (at Ended other_code other_cert) (at Ended code cert) left in
         (ap (λ (s : State). s.code) (sym same), ap (λ (s : State). s.cert) (sym same), is)
     by (l ∷ more) left is = absurd (cc)
-
--- an equal pair has the same text
-pub same_pair : (bytes : List ℕ) (code made : Listing) (cert claimed : Claimed) → made ≡ code → claimed ≡ cert → IsPair code cert × (bytes ≡ text code cert) → IsPair made claimed × (bytes ≡ text made claimed)
-same_pair bytes code made cert claimed e f h =
-    subst (λ (x : Listing). IsPair x claimed × (bytes ≡ text x claimed)) (sym e) (subst (λ (x : Claimed). IsPair code x × (bytes ≡ text code x)) (sym f) h)

@@ -1,23 +1,26 @@
 -- Where the lines of the maps did not end before, the event of a line stands for just that line.
 use Rattle.std.proofs.Common.{◌≡◌, ℕ, Bool, true, false, List, ◌++◌, Option, Some, None, refl, sym, ap, subst, ◌∙◌, inl, inr}
 use Rattle.std.specs.Prelude.{codes, bytes_eq, nat_lt}
+use Rattle.mk_base.specs.declared.TheConstants.{TOP_ORDER}
 use Rattle.mk_code.specs.declared.TheConstants.{MOST_INPUTS}
 use Rattle.mk_code.specs.Listing.{inputs_len}
 use Rattle.mk_regs.specs.declared.TheConstants.{MOST_REGISTERS}
-use Rattle.mk_rules.specs.declared.TheConstants.{TEXT_TOP_ORDER, MOST_CLAIMS}
+use Rattle.mk_rules.specs.declared.TheConstants.{MOST_CLAIMS}
 use Rattle.mk_lines.specs.Words.{line}
 use Rattle.mk_lines.specs.Parsing.{field_of, map_of, operand_of, op_of}
 use Rattle.mk_lines.proofs.Steps.{bind_some, same_some, chosen, passed, not_passed, behind_found, is_word}
 use Rattle.mk_lines.proofs.Spelled.{operand_of_found}
 use Rattle.mk_lines.proofs.Variants.{op_line-words, op_found}
 use Rattle.mk_bundle.specs.Reading.{headed}
+use Rattle.mk_bundle.specs.declared.TheConstants.{TEXT_TOP_ORDER}
 use Rattle.mk_bundle.specs.declared.draft.Stage.{Stage}
 use Rattle.mk_bundle.specs.declared.draft.Stage.TheVariants.{Version, Field, Order, Secrets, Publics, Upper, Lower, Ended}
 use Rattle.mk_bundle.specs.declared.event.Event.{Event}
 use Rattle.mk_bundle.specs.declared.event.Event.TheVariants as event
 use Rattle.mk_bundle.specs.declared.notes.Form.{Form}
 use Rattle.mk_bundle.specs.declared.notes.Form.TheVariants as form
-use Rattle.mk_bundle.specs.Events.{StandsFor, has_begun}
+use Rattle.mk_bundle.specs.Events.{has_begun}
+use Rattle.mk_bundle.specs.Standing.{event_text}
 use Rattle.mk_bundle.specs.Reads.{IsOfBoth}
 use Rattle.mk_bundle.specs.Counting.{Seen, Counted, version_counted, field_counted, order_counted, secrets_counted, publics_counted, map_counts, map_counted, block_counts, block_counted, claim_counted, code_counted, cert_counted, upper_counted, counted_at}
 use Rattle.mk_bundle.specs.Noting.{Noted, keep, first_noted, registers_noted, front_noted, upper_noted, position_noted, register_noted, line_noted}
@@ -25,7 +28,7 @@ use Rattle.mk_bundle.proofs.Marking.{marked}
 
 -- the line of the event is the same in both versions, and it is this one
 abbrev Owns : List ℕ → Event → Type 0
-Owns l e = IsOfBoth e × ((own : List ℕ) → StandsFor e own → own ≡ line l)
+Owns l e = IsOfBoth e × (event_text e ≡ line l)
 
 -- the event that was told is that of the line
 same_event : {A : Type 0} (seen left : A) (d e : Event) → ◌≡◌ {A = Option (A × Option Event)} (Some (seen, Some d)) (Some (left, Some e)) → d ≡ e
@@ -51,7 +54,7 @@ block_owns seen left e l words here is =
     let a = bind_some (op_of words) _ (left, Some e) is in
     let h = passed (block_counts seen) _ (left, Some e) a.2 in
     let spelled = op_line-words a.0 ∙ ap (λ (w : List ℕ). line (codes "block " ++ w)) (sym (op_found words a.0 a.1).0) ∙ ap line (sym here) in
-    subst (Owns l) (same_event _ left (event.Block a.0) e h.1) (tt, λ own stands. stands ∙ spelled)
+    subst (Owns l) (same_event _ left (event.Block a.0) e h.1) (tt, spelled)
 
 -- the event of a claim's line
 claim_owns : (seen left : Seen) (e : Event) (l words : List ℕ) → l ≡ codes "claim " ++ words → claim_counted seen words ≡ Some (left, Some e) → Owns l e
@@ -60,7 +63,7 @@ claim_owns seen left e l words here is =
     let a = bind_some (operand_of words) _ (left, Some e) is in
     let h = passed (nat_lt seen.claims MOST_CLAIMS) _ (left, Some e) a.2 in
     let spelled = ap (λ (w : List ℕ). line (codes "claim " ++ w)) (sym (operand_of_found words a.0 a.1).0) ∙ ap line (sym here) in
-    subst (Owns l) (same_event _ left (event.Claim a.0) e h.1) (tt, λ own stands. stands ∙ spelled)
+    subst (Owns l) (same_event _ left (event.Claim a.0) e h.1) (tt, spelled)
 
 -- the event of the line `code`
 code_owns : (seen left : Seen) (e : Event) (l : List ℕ) → code_counted seen l ≡ Some (left, Some e) → Owns l e
@@ -68,7 +71,7 @@ unfolding code_counted
 code_owns seen left e l is =
     let h = passed (bytes_eq l (codes "code")) _ (left, Some e) is in
     let spelled = ap line (sym (is_word l (codes "code") h.0)) in
-    subst (Owns l) (same_event _ left event.Code e h.1) (tt, λ own stands. stands ∙ spelled)
+    subst (Owns l) (same_event _ left event.Code e h.1) (tt, spelled)
 
 -- the event of a line of the certificate
 cert_owns : (seen left : Seen) (e : Event) (l : List ℕ) → cert_counted seen l ≡ Some (left, Some e) → Owns l e
@@ -83,14 +86,19 @@ upper_owns : (seen left : Seen) (e : Event) (l : List ℕ) → upper_counted see
 unfolding upper_counted
 upper_owns seen left e l is = elim (behind_found (codes "map ") l _ _ (left, Some e) is) [ inl h ↦ map_owns seen left e l h.0 h.2 | inr is ↦ cert_owns seen left e l is ]
 
+-- the line of the order has no event
+order_owns : (most : ℕ) (seen left : Seen) (e : Event) (l : List ℕ) → order_counted most seen l ≡ Some (left, Some e) → Owns l e
+unfolding order_counted
+order_owns most seen left e l is =
+    let a = bind_some (headed (codes "order ") most l) _ (left, Some e) is in
+    no_event _ left l e (not_passed (nat_lt a.0 1) _ (left, Some e) a.2).1
+
 -- the event of a line that is counted
 counted_owns : (stage : Stage) (seen left : Seen) (e : Event) (l : List ℕ) → has_begun stage seen.blocks seen.claims ≡ false → counted_at stage seen l ≡ Some (left, Some e) → Owns l e
-unfolding counted_at version_counted field_counted order_counted secrets_counted publics_counted
+unfolding counted_at version_counted field_counted secrets_counted publics_counted
 counted_owns Version seen left e l before is = no_event _ left l e (passed (bytes_eq l (codes "mask 1")) _ (left, Some e) is).1
 counted_owns Field seen left e l before is = no_event _ left l e (bind_some (field_of l) _ (left, Some e) is).2
-counted_owns Order seen left e l before is =
-    let a = bind_some (headed (codes "order ") TEXT_TOP_ORDER l) _ (left, Some e) is in
-    no_event _ left l e (not_passed (nat_lt a.0 1) _ (left, Some e) a.2).1
+counted_owns Order seen left e l before is = order_owns TEXT_TOP_ORDER seen left e l is
 counted_owns Secrets seen left e l before is = no_event _ left l e (bind_some (headed (codes "secrets ") MOST_INPUTS l) _ (left, Some e) is).2
 counted_owns Publics seen left e l before is = no_event _ left l e (bind_some (headed (codes "publics ") MOST_INPUTS l) _ (left, Some e) is).2
 counted_owns Upper seen left e l before is = upper_owns seen left e l is
@@ -154,7 +162,7 @@ register_owns : (stage : Stage) (f : Form) (seen : Seen) (left : Noted) (e : Eve
 unfolding register_noted
 register_owns Version f seen left e l before is = absurd cc
 register_owns Field f seen left e l before is = kept_owns f Field seen left e l before is
-register_owns Order f seen left e l before is = kept_owns f Order seen left e l before is
+register_owns Order f seen left e l before is = let h = kept_found f (order_counted TOP_ORDER seen l) left e is in order_owns TOP_ORDER seen h.0 e l h.1
 register_owns Secrets f seen left e l before is = kept_owns f Secrets seen left e l before is
 register_owns Publics f seen left e l before is = kept_owns f Publics seen left e l before is
 register_owns Upper f seen left e l before is = noted_upper_owns f seen left e l is
@@ -171,7 +179,7 @@ form_owns (form.Refused refusal) seen left e l before is = register_owns seen.st
 -- where the lines of the maps did not end before, the event of a line is one whose line is the same in both versions, and
 -- it stands for just that line
 pub own_line : (n left : Noted) (e : Event) (l : List ℕ) → (n.seen.stage ≡ Ended → ⊥) → has_begun n.seen.stage n.seen.blocks n.seen.claims ≡ false → line_noted n l ≡ Some (left, Some e)
-    → IsOfBoth e × ((own : List ℕ) → StandsFor e own → own ≡ line l)
+    → IsOfBoth e × (event_text e ≡ line l)
 own_line n left e l other before is = form_owns n.form n.seen left e l before is
 
 -- the last line comes where the lines of the maps ended before

@@ -18,7 +18,7 @@ use Rattle.mk_bundle.specs.RegisterReading.{RegisterState, register_start, regis
 use Rattle.mk_bundle.specs.Versions.{Partial, Positions, Registers, begin, register_opened, opens_registers, partial_read, partials_read, stage_of, register_code}
 use Rattle.mk_bundle.proofs.Sound.{at, text_at, line_goes}
 use Rattle.mk_bundle.proofs.Complete.{text_runs, bind_same, bind_assoc}
-use Rattle.mk_bundle.proofs.Naming.{GoodAt, so_far, start_good, completes}
+use Rattle.mk_bundle.proofs.Naming.{GoodAt, so_far, text_pair, start_good, completes}
 use Rattle.mk_bundle.proofs.Leading.{all_read}
 use Rattle.mk_bundle.proofs.RegisterComplete.{behind_cert, register_text_goes}
 use Rattle.mk_bundle.proofs.RegisterSound.{register_text_at, register_so_far, GoodRegisters, opened_good, opened_text, register_line_goes, register_completes, register_ended}
@@ -111,7 +111,7 @@ reached lines p e = all_go lines begin p (start_good, λ is. refl) e
 
 -- the text of what was read goes on to that of its pair, which is a bundle text
 goes_on : (p : Partial) → GoodSoFar p → Front (text_so_far p) (text_of p) × IsBundleText (text_of p)
-goes_on (Positions st) good = (completes st.stage st.code st.cert, inl (st.code, st.cert, (good.0.pair, refl)))
+goes_on (Positions st) good = (completes st.stage st.code st.cert, inl (st.code, st.cert, (text_pair st good.0, refl)))
 goes_on (Registers st) good = (register_completes st good.0, inr (register_code st, st.shared.cert, (good.0.pair, refl)))
 
 -- ---- texts are read

@@ -2,6 +2,7 @@
 use Rattle.std.proofs.Common.{◌≡◌, ℕ, ◌+◌, ◌*◌, ◌^◌, List, [], Option, Some, None, refl, sym, ap, subst, ◌∙◌, if◌then◌else◌}
 use Rattle.std.specs.Option.{IsSome}
 use Rattle.std.specs.Prelude.{codes, bytes_eq, nat_lt, is_some, map, option_map, IfSome}
+use Rattle.mk_base.specs.declared.TheConstants.{TOP_ORDER}
 use Rattle.mk_field.specs.declared.map.AddMap.{AddMap}
 use Rattle.mk_code.specs.Listing.{inputs_len}
 use Rattle.mk_code.specs.declared.TheConstants.{MOST_INPUTS}
@@ -23,7 +24,7 @@ use Rattle.mk_bundle.specs.Events.{events_at}
 use Rattle.mk_bundle.specs.Reading.{headed}
 use Rattle.mk_bundle.specs.RegisterReading.{RegisterState}
 use Rattle.mk_bundle.specs.Versions.{Partial, Positions, Registers, register_code, events_so_far}
-use Rattle.mk_bundle.specs.Counting.{Seen, Counted, version_counted, map_counted, cert_counted, counted_at}
+use Rattle.mk_bundle.specs.Counting.{Seen, Counted, version_counted, order_counted, map_counted, cert_counted, counted_at}
 use Rattle.mk_bundle.specs.Noting.{Noted, Noting, noted, form_of, form_unless, at_end, refusal_in, keep, first_noted, registers_noted, front_noted, upper_noted, form_behind, instr_event, form_behind_out, out_event, register_counts, register_instr_noted, register_out_noted, register_lower_noted, position_noted, register_noted, line_noted}
 use Rattle.mk_bundle.proofs.RegisterSound.{GoodRegisters, IsBlankAt}
 use Rattle.mk_bundle.proofs.Reaching.{GoodSoFar}
@@ -125,7 +126,7 @@ register_clean : (stage : Stage) (f : Form) (seen : Seen) (l : List ℕ) → IsE
 unfolding register_noted
 register_clean Version f seen l early = tt
 register_clean Field f seen l early = kept f (counted_at Field seen l) (early (λ e. absurd cc) (λ e. absurd cc))
-register_clean Order f seen l early = kept f (counted_at Order seen l) (early (λ e. absurd cc) (λ e. absurd cc))
+register_clean Order f seen l early = kept f (order_counted TOP_ORDER seen l) (early (λ e. absurd cc) (λ e. absurd cc))
 register_clean Secrets f seen l early = kept f (counted_at Secrets seen l) (early (λ e. absurd cc) (λ e. absurd cc))
 register_clean Publics f seen l early = kept f (counted_at Publics seen l) (early (λ e. absurd cc) (λ e. absurd cc))
 register_clean Upper f seen l early = upper_clean f seen l (early (λ e. absurd cc) (λ e. absurd cc))

@@ -4,6 +4,7 @@ use Rattle.std.specs.Prelude.{codes, bytes_eq, ◌&&◌, map}
 use Rattle.std.specs.Option.{option_or}
 use Rattle.std.proofs.lemmas.Bool.{and_parts, false≢true}
 use Rattle.std.proofs.lemmas.List.{length-map, map-append}
+use Rattle.mk_base.specs.declared.TheConstants.{TOP_ORDER}
 use Rattle.mk_code.specs.declared.instr.Instr.{Instr}
 use Rattle.mk_code.specs.declared.TheConstants.{MOST_INPUTS, MOST_INSTRS}
 use Rattle.mk_code.specs.Listing.{Listing, inputs_len}
@@ -159,12 +160,12 @@ first_field code cert l =
 
 -- the line of the order
 first_order : (code : Listing) (cert : Claimed) (l : List ℕ)
-    → Agrees (Registers (first Order code cert)) (keep form.Unnumbered (counted_at Order (first_seen Order code cert) l)) (register_read_at Order (first Order code cert) l >>= λ next. Some (Registers next))
-unfolding counted_at register_read_at outs_refusal first_refusal
+    → Agrees (Registers (first Order code cert)) (keep form.Unnumbered (order_counted TOP_ORDER (first_seen Order code cert) l)) (register_read_at Order (first Order code cert) l >>= λ next. Some (Registers next))
+unfolding register_read_at outs_refusal first_refusal
 first_order code cert l =
     let st = first Order code cert in
     let seen = first_seen Order code cert in
-    shared_keep st form.Unnumbered (order_counted seen l) (order_read st.shared l) (order_agrees (SharedLeft st form.Unnumbered) code cert seen l (λ n. (refl, refl)))
+    shared_keep st form.Unnumbered (order_counted TOP_ORDER seen l) (order_read TOP_ORDER st.shared l) (order_agrees (SharedLeft st form.Unnumbered) TOP_ORDER code cert seen l (λ n. (refl, refl)))
 
 -- the line of the number of secrets
 first_secrets : (code : Listing) (cert : Claimed) (l : List ℕ)

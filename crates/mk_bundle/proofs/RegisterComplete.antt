@@ -5,6 +5,7 @@ use Rattle.std.specs.List.{AllByRecursion}
 use Rattle.std.proofs.lemmas.Bool.{lt-ltb, le-ltb}
 use Rattle.std.proofs.lemmas.List.{append-nil, nil_from_length, take-append-drop, length-take-le, length-drop}
 use Rattle.std.proofs.Math.Nat.{mul-div_cancel, mul-le-mul}
+use Rattle.mk_base.specs.declared.TheConstants.{TOP_ORDER}
 use Rattle.mk_field.specs.declared.field.FieldId.{FieldId}
 use Rattle.mk_field.specs.declared.field.FieldId.TheVariants.{Gf2, Gf256}
 use Rattle.mk_field.specs.declared.map.AddMap.{AddMap}
@@ -61,11 +62,11 @@ field_goes Gf2 = one_leads register_line_read (head_at Field Gf2 1 0 0) (head_at
 field_goes Gf256 = one_leads register_line_read (head_at Field Gf2 1 0 0) (head_at Order Gf256 1 0 0) (codes "field gf256") refl refl
 
 -- the order's line leads on to that of the number of secrets
-order_goes : (field : FieldId) (n : ℕ) → 1 ≤ n → n ≤ 8 → Goes (head_at Order field 1 0 0) (number_line (codes "order") n) (head_at Secrets field n 0 0)
+order_goes : (field : FieldId) (n : ℕ) → 1 ≤ n → n ≤ TOP_ORDER → Goes (head_at Order field 1 0 0) (number_line (codes "order") n) (head_at Secrets field n 0 0)
 unfolding order_read register_read_at
 order_goes field n low few =
     one_leads register_line_read (head_at Order field 1 0 0) (head_at Secrets field n 0 0) (codes "order " ++ decimal n) (is_line-decimal n (omega arith))
-    (rw (headed_again (codes "order ") 8 n few (omega arith), le-ltb n 1 low) refl)
+    (rw (headed_again (codes "order ") TOP_ORDER n few (omega arith), le-ltb n 1 low) refl)
 
 -- the line of the number of secrets leads on to that of the number of publics
 secrets_go : (field : FieldId) (order n : ℕ) → n ≤ 65536 → Goes (head_at Secrets field order 0 0) (number_line (codes "secrets") n) (head_at Publics field order n 0)

@@ -21,7 +21,7 @@ use Rattle.mk_code.specs.Listing.{Listing, inputs_len}
 use Rattle.mk_regs.specs.declared.TheConstants.{MOST_REGISTERS}
 use Rattle.mk_regs.specs.declared.instr.RegInstr.{RegInstr}
 use Rattle.mk_regs.specs.Form.{RegListing, HasParts, target, operation, into_register}
-use Rattle.mk_rules.specs.declared.TheConstants.{TEXT_TOP_ORDER, MOST_BLOCKS, MOST_CLAIMS}
+use Rattle.mk_rules.specs.declared.TheConstants.{MOST_BLOCKS, MOST_CLAIMS}
 use Rattle.mk_rules.specs.Claimed.{Claimed}
 use Rattle.mk_lines.specs.Words.{line}
 use Rattle.mk_lines.specs.CertLines.{op_line, claim_line}
@@ -189,15 +189,15 @@ field_goes st l next good e =
     subst (GoesOn (on Field st) l) is (record { pair = first_pair (with_code Order st made) first listing.order listing.secrets listing.publics; blank = first }, ap (λ (r : List ℕ). line (codes "mask 2") ++ r) (field_found l a.0 a.1))
 
 -- the order's line, if it is read, goes on with the text so far
-order_goes : (st : RegisterState) (l : List ℕ) (next : RegisterState) → GoodRegisters (on Order st) → share (on Order st) (order_read (on Order st).shared l) ≡ Some next → GoesOn (on Order st) l next
+order_goes : (st : RegisterState) (l : List ℕ) (next : RegisterState) → GoodRegisters (on Order st) → share (on Order st) (order_read TOP_ORDER (on Order st).shared l) ≡ Some next → GoesOn (on Order st) l next
 unfolding order_read
 order_goes st l next good e =
     let code : Listing = st.shared.code in
-    let s = share_found (on Order st) (order_read (on Order st).shared l) next e in
-    let a = bind_some (headed (codes "order ") TEXT_TOP_ORDER l) (λ (n : ℕ). cond (nat_lt n 1) None (Some (at Secrets (record code { order = n }) st.shared.cert))) s.0 s.1 in
+    let s = share_found (on Order st) (order_read TOP_ORDER (on Order st).shared l) next e in
+    let a = bind_some (headed (codes "order ") TOP_ORDER l) (λ (n : ℕ). cond (nat_lt n 1) None (Some (at Secrets (record code { order = n }) st.shared.cert))) s.0 s.1 in
     let made : Listing = record code { order = a.0 } in
     let h = not_passed (nat_lt a.0 1) (Some (at Secrets made st.shared.cert)) s.0 a.2 in
-    let found = headed_found (codes "order ") TEXT_TOP_ORDER l a.0 a.1 in
+    let found = headed_found (codes "order ") TOP_ORDER l a.0 a.1 in
     let low : 1 ≤ a.0 = ltb-false a.0 1 h.0 in
     let first = first_again Secrets st made good.blank refl in
     let listing = good.pair.listing in

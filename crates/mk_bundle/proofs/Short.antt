@@ -19,16 +19,16 @@ use Rattle.mk_code.specs.declared.instr.Instr.TheVariants as instr
 use Rattle.mk_code.specs.declared.TheConstants.{MOST_INPUTS, MOST_INSTRS}
 use Rattle.mk_code.specs.Listing.{Listing, trace_len}
 use Rattle.mk_regs.specs.declared.TheConstants.{MOST_REGISTERS}
-use Rattle.mk_rules.specs.declared.TheConstants.{TEXT_TOP_ORDER}
 use Rattle.mk_rules.specs.Claimed.{Claimed}
 use Rattle.mk_lines.specs.Words.{line, operand_word}
 use Rattle.mk_lines.specs.CertLines.{pair_words, mapped_words}
 use Rattle.mk_lines.specs.CodeLines.{field_line, position_word, InstrFits, IntoFits}
-use Rattle.mk_lines.specs.Parsing.{field_of, after, map_of, operand_of, op_of, instr_of, instr_at, add_at, mul_or_map_at, rnd_at, const_or_copy_at, sq_at, into_of, add_into, mul_or_map_into, rnd_into, const_or_copy_into, sq_into, positions_of}
+use Rattle.mk_lines.specs.Parsing.{field_of, after, map_of, operand_of, op_of, instr_of, instr_at, add_at, mul_or_map_at, rnd_at, const_or_copy_at, sq_at, into_of, into_at, add_into, mul_or_map_into, rnd_into, const_or_copy_into, sq_into, positions_of}
 use Rattle.mk_lines.proofs.Steps.{bind_some, passed, behind_found, is_word, chosen}
 use Rattle.mk_lines.proofs.Spelled.{map_found, operand_of_found, positions_found, number_words}
 use Rattle.mk_lines.proofs.Variants.{op_words, op_found, instr_words, instr_found, into_words, into_found}
 use Rattle.mk_lines.proofs.Fields.{field_found}
+use Rattle.mk_bundle.specs.declared.TheConstants.{TEXT_TOP_ORDER}
 use Rattle.mk_bundle.specs.declared.draft.Stage.{Stage}
 use Rattle.mk_bundle.specs.declared.draft.Stage.TheVariants.{Version, Field, Order, Secrets, Publics, Upper, Lower, Ended}
 use Rattle.mk_bundle.specs.Reading.{State, line_read, version_line, field_read, headed, order_read, secrets_read, publics_read, map_read, block_read, claim_read, code_read, upper_read, fits_at, may_instr, instr_read, out_read, lower_read, read_at}
@@ -206,9 +206,9 @@ unfolding field_read
 field_read_short st next l e = let a = bind_some (field_of l) _ next e in field_short l a.0 (field_found l a.0 a.1)
 
 -- the line of the order
-order_short : (st next : State) (l : List ℕ) → order_read st l ≡ Some next → length l < MOST_LINE
+order_short : (most : ℕ) (st next : State) (l : List ℕ) → most ≤ TOP_ORDER → order_read most st l ≡ Some next → length l < MOST_LINE
 unfolding order_read
-order_short st next l e = let a = bind_some (headed (codes "order ") TEXT_TOP_ORDER l) _ next e in headed_short (codes "order ") TEXT_TOP_ORDER l a.0 (omega arith) (omega arith) a.1
+order_short most st next l low e = let a = bind_some (headed (codes "order ") most l) _ next e in headed_short (codes "order ") most l a.0 (omega arith) (omega (arith, low)) a.1
 
 -- the line of the number of secrets
 secrets_short : (st next : State) (l : List ℕ) → secrets_read st l ≡ Some next → length l < MOST_LINE
@@ -225,7 +225,7 @@ line_short : (stage : Stage) (code : Listing) (cert : Claimed) (l : List ℕ) (n
 unfolding read_at version_line
 line_short Version code cert l next good e = word_short (codes "mask 1") l (omega arith) (passed (bytes_eq l (codes "mask 1")) _ next e).0
 line_short Field code cert l next good e = field_read_short (at Field code cert) next l e
-line_short Order code cert l next good e = order_short (at Order code cert) next l e
+line_short Order code cert l next good e = order_short TEXT_TOP_ORDER (at Order code cert) next l (omega arith) e
 line_short Secrets code cert l next good e = secrets_short (at Secrets code cert) next l e
 line_short Publics code cert l next good e = publics_short (at Publics code cert) next l e
 line_short Upper code cert l next good e = upper_short (at Upper code cert) next l e
@@ -273,7 +273,7 @@ register_line_short : (stage : Stage) (st next : RegisterState) (l : List ℕ) �
 unfolding register_read_at register_version_line
 register_line_short Version st next l low e = word_short (codes "mask 2") l (omega arith) (passed (bytes_eq l (codes "mask 2")) _ next e).0
 register_line_short Field st next l low e = share_short st (field_read st.shared l) next l (λ s. field_read_short st.shared s l) e
-register_line_short Order st next l low e = share_short st (order_read st.shared l) next l (λ s. order_short st.shared s l) e
+register_line_short Order st next l low e = share_short st (order_read TOP_ORDER st.shared l) next l (λ s. order_short TOP_ORDER st.shared s l (omega arith)) e
 register_line_short Secrets st next l low e = share_short st (secrets_read st.shared l) next l (λ s. secrets_short st.shared s l) e
 register_line_short Publics st next l low e = share_short st (publics_read st.shared l) next l (λ s. publics_short st.shared s l) e
 register_line_short Upper st next l low e = register_upper_short st.registers st next l e
@@ -324,7 +324,7 @@ upper_stuck (Some n) st = refl
 
 -- no empty line of version 2 is read
 registers_stuck : (stage : Stage) (st : RegisterState) → register_read_at stage st [] ≡ None
-unfolding register_read_at register_version_line field_read field_of order_read secrets_read publics_read headed register_lower_read register_instr_read into_of add_into mul_or_map_into rnd_into const_or_copy_into sq_into after
+unfolding register_read_at register_version_line field_read field_of order_read secrets_read publics_read headed register_lower_read register_instr_read into_of into_at add_into mul_or_map_into rnd_into const_or_copy_into sq_into after
 registers_stuck Version st = refl
 registers_stuck Field st = refl
 registers_stuck Order st = refl

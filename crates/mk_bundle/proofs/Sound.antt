@@ -8,6 +8,7 @@ use Rattle.std.proofs.Math.Seq.{take-length}
 use Rattle.std.proofs.lemmas.List.Elements.{All-append}
 use Rattle.std.proofs.lemmas.Grind.{flat_map-append}
 use Rattle.std.proofs.Math.Nat.{zero-div, mul-div_cancel, lt_of_mul-lt-mul_right}
+use Rattle.mk_base.specs.declared.TheConstants.{TOP_ORDER}
 use Rattle.mk_field.specs.declared.field.FieldId.{FieldId}
 use Rattle.mk_field.specs.declared.field.FieldId.TheVariants.{Gf2, Gf256}
 use Rattle.mk_field.specs.declared.map.AddMap.{AddMap}
@@ -26,6 +27,7 @@ use Rattle.mk_lines.specs.CodeLines.{field_line, map_line, instr_line, out_line,
 use Rattle.mk_field.specs.Maps.{MapFits}
 use Rattle.mk_bundle.specs.Text.{number_line, head_lines, upper_text, lower_text, text}
 use Rattle.mk_rules.specs.Pairs.{IsPair}
+use Rattle.mk_bundle.specs.declared.TheConstants.{TEXT_TOP_ORDER}
 use Rattle.mk_bundle.specs.declared.draft.Stage.{Stage}
 use Rattle.mk_bundle.specs.declared.draft.Stage.TheVariants.{Version, Field, Order, Secrets, Publics, Upper, Lower, Ended}
 use Rattle.mk_lines.specs.Parsing.{field_of, ◌>>=◌, after, number_of, map_of, operand_of, op_of, instr_of, positions_of}
@@ -76,9 +78,10 @@ IsBlank Upper code cert = HasNoCode code
 IsBlank Lower code cert = Unit {0}
 IsBlank Ended code cert = Unit {0}
 
--- the pair so far is within the limits, and what comes behind the stage is empty yet
+-- the pair so far is within the limits, of an order of version 1, and what comes behind the stage is empty yet
 pub record Good (stage : Stage) (code : Listing) (cert : Claimed) : Type 0 where
   pub pair : IsPair code cert
+  pub order : code.order ≤ TEXT_TOP_ORDER
   pub blank : IsBlank stage code cert
 
 -- the line goes on with what was read
@@ -104,7 +107,7 @@ length-push xs x = length-append xs (x ∷ [])
 -- ---- codes
 
 -- a code with no instruction yet
-pub empty_listing : (code : Listing) → (1 ≤ code.order) × (code.order ≤ 8) → code.secrets ≤ 65536 → code.publics ≤ 65536 → length code.maps ≤ 32768 → HasMapsOnlyInBytes code.field code.maps → HasNoCode code → IsListing code
+pub empty_listing : (code : Listing) → (1 ≤ code.order) × (code.order ≤ TOP_ORDER) → code.secrets ≤ 65536 → code.publics ≤ 65536 → length code.maps ≤ 32768 → HasMapsOnlyInBytes code.field code.maps → HasNoCode code → IsListing code
 empty_listing code order secrets publics maps bytes none = record {
   order = order;
   secrets = secrets;
@@ -132,10 +135,9 @@ no_code : (code : Listing) (cert : Claimed) → IsFresh code cert → HasNoCode 
 no_code code cert fresh = record { instrs = fresh.instrs; outs = fresh.outs }
 
 -- the head's numbers in a pair that has nothing else
-pub fresh_pair : (code : Listing) (cert : Claimed) → IsFresh code cert → (1 ≤ code.order) × (code.order ≤ 8) → code.secrets ≤ 65536 → code.publics ≤ 65536 → IsPair code cert
+pub fresh_pair : (code : Listing) (cert : Claimed) → IsFresh code cert → (1 ≤ code.order) × (code.order ≤ TOP_ORDER) → code.secrets ≤ 65536 → code.publics ≤ 65536 → IsPair code cert
 fresh_pair code cert fresh order secrets publics = record {
   listing = empty_listing code order secrets publics (let e : length code.maps ≡ 0 = ap length fresh.maps in omega (arith, e)) (no_maps code.field code.maps fresh.maps) (no_code code cert fresh);
-  order = order.1;
   maps = subst (AllByRecursion MapFits) (sym fresh.maps) tt;
   blocks = subst (AllByRecursion OpFits) (sym fresh.blocks) tt;
   claims = subst (AllByRecursion OperandFits) (sym fresh.claims) tt;
@@ -155,7 +157,7 @@ unfolding version_line
 version_goes code cert l next good e =
     let h = passed (bytes_eq l (codes "mask 1")) (Some (at Field code cert)) next e in
     let is : l ≡ codes "mask 1" = is_word l (codes "mask 1") h.0 in
-    subst (Goes Version code cert l) (same_some (at Field code cert) next h.1) (record { good = record { pair = good.pair; blank = good.blank }; more = ap line (sym is) })
+    subst (Goes Version code cert l) (same_some (at Field code cert) next h.1) (record { good = record { pair = good.pair; order = good.order; blank = good.blank }; more = ap line (sym is) })
 
 -- the field's line, if it is read, goes on with the text so far
 field_goes : (code : Listing) (cert : Claimed) (l : List ℕ) (next : State) → Good Field code cert → field_read (at Field code cert) l ≡ Some next → Goes Field code cert l next
@@ -166,7 +168,7 @@ field_goes code cert l next good e =
     let fresh = refreshed code made cert good.blank refl refl refl in
     let listing = good.pair.listing in
     subst (Goes Field code cert l) (same_some (at Order made cert) next h.2) (record {
-      good = record { pair = fresh_pair made cert fresh listing.order listing.secrets listing.publics; blank = fresh };
+      good = record { pair = fresh_pair made cert fresh listing.order listing.secrets listing.publics; order = good.order; blank = fresh };
       more = ap (λ (r : List ℕ). line (codes "mask 1") ++ r) (field_found l h.0 h.1);
     })
 
@@ -181,18 +183,20 @@ headed_found name most l n e =
     (after_found name l a.0 a.1 ∙ ap (λ (r : List ℕ). name ++ r) ((number_of_found a.0 b.0 b.1).0 ∙ ap decimal is), omega (arith, is, ltb-false most b.0 h.0))
 
 -- the order's line, if it is read, goes on with the text so far
-order_goes : (code : Listing) (cert : Claimed) (l : List ℕ) (next : State) → Good Order code cert → order_read (at Order code cert) l ≡ Some next → Goes Order code cert l next
+order_goes : (code : Listing) (cert : Claimed) (l : List ℕ) (next : State) → Good Order code cert → order_read TEXT_TOP_ORDER (at Order code cert) l ≡ Some next → Goes Order code cert l next
 unfolding order_read
 order_goes code cert l next good e =
-    let a = bind_some (headed (codes "order ") 8 l) (λ (n : ℕ). cond (nat_lt n 1) None (Some (at Secrets (record code { order = n }) cert))) next e in
+    let a = bind_some (headed (codes "order ") TEXT_TOP_ORDER l) (λ (n : ℕ). cond (nat_lt n 1) None (Some (at Secrets (record code { order = n }) cert))) next e in
     let made : Listing = record code { order = a.0 } in
     let h = not_passed (nat_lt a.0 1) (Some (at Secrets made cert)) next a.2 in
-    let found = headed_found (codes "order ") 8 l a.0 a.1 in
+    let found = headed_found (codes "order ") TEXT_TOP_ORDER l a.0 a.1 in
     let low : 1 ≤ a.0 = ltb-false a.0 1 h.0 in
+    let most : a.0 ≤ TEXT_TOP_ORDER = found.1 in
+    let any : a.0 ≤ TOP_ORDER = omega (arith, most) in
     let fresh = refreshed code made cert good.blank refl refl refl in
     let listing = good.pair.listing in
     subst (Goes Order code cert l) (same_some (at Secrets made cert) next h.1) (record {
-      good = record { pair = fresh_pair made cert fresh (low, found.1) listing.secrets listing.publics; blank = fresh };
+      good = record { pair = fresh_pair made cert fresh (low, any) listing.secrets listing.publics; order = most; blank = fresh };
       more = ap (λ (r : List ℕ). line (codes "mask 1") ++ field_line code.field ++ line r) (sym found.0);
     })
 
@@ -206,7 +210,7 @@ secrets_goes code cert l next good e =
     let fresh = refreshed code made cert good.blank refl refl refl in
     let listing = good.pair.listing in
     subst (Goes Secrets code cert l) (same_some (at Publics made cert) next a.2) (record {
-      good = record { pair = fresh_pair made cert fresh listing.order found.1 listing.publics; blank = fresh };
+      good = record { pair = fresh_pair made cert fresh listing.order found.1 listing.publics; order = good.order; blank = fresh };
       more = ap (λ (r : List ℕ). line (codes "mask 1") ++ field_line code.field ++ number_line (codes "order") code.order ++ line r) (sym found.0);
     })
 
@@ -224,7 +228,7 @@ publics_goes code cert l next good e =
     let fresh = refreshed code made cert good.blank refl refl refl in
     let listing = good.pair.listing in
     subst (Goes Publics code cert l) (same_some (at Upper made cert) next a.2) (record {
-      good = record { pair = fresh_pair made cert fresh listing.order listing.secrets found.1; blank = no_code made cert fresh };
+      good = record { pair = fresh_pair made cert fresh listing.order listing.secrets found.1; order = good.order; blank = no_code made cert fresh };
       more = head_alone made cert fresh ∙ ap (λ (r : List ℕ). line (codes "mask 1") ++ field_line code.field ++ number_line (codes "order") code.order ++ number_line (codes "secrets") code.secrets ++ line r) (sym found.0);
     })
 
@@ -257,13 +261,13 @@ map_goes code cert l words next good here e =
       good = record {
         pair = record {
           listing = empty_listing made listing.order listing.secrets listing.publics (few_of code.maps map 32768 p.1) (some_maps code.field (code.maps ++ map ∷ []) r.0) none;
-          order = good.pair.order;
           maps = AllByRecursion-push MapFits code.maps map good.pair.maps found.1;
           blocks = good.pair.blocks;
           claims = good.pair.claims;
           few_blocks = good.pair.few_blocks;
           few_claims = good.pair.few_claims;
         };
+        order = good.order;
         blank = none;
       };
       more = last_map (head_lines code) code.maps map (none_of cert.blocks r.1) (none_of cert.claims q.1) spelled;
@@ -289,13 +293,13 @@ block_goes code cert l words next good here e =
       good = record {
         pair = record {
           listing = good.pair.listing;
-          order = good.pair.order;
           maps = good.pair.maps;
           blocks = AllByRecursion-push OpFits cert.blocks op good.pair.blocks found.1;
           claims = good.pair.claims;
           few_blocks = few_of cert.blocks op 131072 p.1;
           few_claims = good.pair.few_claims;
         };
+        order = good.order;
         blank = good.blank;
       };
       more = last_block (head_lines code ++ flat_map map_line code.maps) cert.blocks op (none_of cert.claims p.0) spelled;
@@ -319,13 +323,13 @@ claim_goes code cert l words next good here e =
       good = record {
         pair = record {
           listing = good.pair.listing;
-          order = good.pair.order;
           maps = good.pair.maps;
           blocks = good.pair.blocks;
           claims = AllByRecursion-push OperandFits cert.claims value good.pair.claims found.1;
           few_blocks = good.pair.few_blocks;
           few_claims = few_of cert.claims value 65536 h.0;
         };
+        order = good.order;
         blank = good.blank;
       };
       more = last_claim (head_lines code ++ flat_map map_line code.maps ++ flat_map op_line cert.blocks) cert.claims value spelled;
@@ -346,7 +350,7 @@ code_goes code cert l next good e =
     let h = passed (bytes_eq l (codes "code")) (Some (at Lower code cert)) next e in
     let is : l ≡ codes "code" = is_word l (codes "code") h.0 in
     subst (Goes Upper code cert l) (same_some (at Lower code cert) next h.1) (record {
-      good = record { pair = good.pair; blank = tt };
+      good = record { pair = good.pair; order = good.order; blank = tt };
       more = no_more (upper_text code cert) code.instrs (out_lines (code.order + 1) (length code.outs / (code.order + 1)) code.outs) good.blank.instrs (no_outs (code.order + 1) code.outs good.blank.outs) is;
     })
   where
@@ -407,13 +411,13 @@ instr_goes code cert l next good e =
             outs = λ k d below. (let e : length code.outs ≡ 0 = ap length none in absurd (omega (arith, e, below)));
             outputs = listing.outputs;
           };
-          order = good.pair.order;
           maps = good.pair.maps;
           blocks = good.pair.blocks;
           claims = good.pair.claims;
           few_blocks = good.pair.few_blocks;
           few_claims = good.pair.few_claims;
         };
+        order = good.order;
         blank = tt;
       };
       more = last_instr (upper_text code cert ++ line (codes "code")) code.instrs i (out_lines (code.order + 1) (length code.outs / (code.order + 1)) code.outs) (no_outs (code.order + 1) code.outs none) spelled;
@@ -480,13 +484,13 @@ out_goes code cert l words next good here e =
             outs = All-append (λ p. p < trace_len code) code.outs positions listing.outs (all_below (trace_len code) positions found.2);
             outputs = (k + 1, few, longer);
           };
-          order = good.pair.order;
           maps = good.pair.maps;
           blocks = good.pair.blocks;
           claims = good.pair.claims;
           few_blocks = good.pair.few_blocks;
           few_claims = good.pair.few_claims;
         };
+        order = good.order;
         blank = tt;
       };
       more = last_out (upper_text code cert ++ line (codes "code") ++ flat_map instr_line code.instrs) shares (length (code.outs ++ positions) / shares) (length code.outs / shares) k code.outs positions behind before all found.1 spelled;
@@ -502,7 +506,7 @@ out_goes code cert l words next good here e =
 
 -- the last line, if it is read, goes on with the text so far
 end_goes : (code : Listing) (cert : Claimed) (l : List ℕ) (next : State) → Good Lower code cert → l ≡ codes "end" → at Ended code cert ≡ next → Goes Lower code cert l next
-end_goes code cert l next good is made = subst (Goes Lower code cert l) made (record { good = record { pair = good.pair; blank = tt }; more = ap (λ (w : List ℕ). lower_text code cert ++ line w) (sym is) })
+end_goes code cert l next good is made = subst (Goes Lower code cert l) made (record { good = record { pair = good.pair; order = good.order; blank = tt }; more = ap (λ (w : List ℕ). lower_text code cert ++ line w) (sym is) })
 
 -- any line of the code, if it is read, goes on with the text so far
 lower_goes : (code : Listing) (cert : Claimed) (l : List ℕ) (next : State) → Good Lower code cert → lower_read (at Lower code cert) l ≡ Some next → Goes Lower code cert l next

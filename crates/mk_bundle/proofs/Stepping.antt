@@ -1,12 +1,11 @@
 -- A reader steps from line to line.
 use Rattle.std.proofs.Common.{◌≡◌, ℕ, ◌+◌, ◌-◌, ◌<◌, ◌≤◌, Bool, true, false, List, [], ◌∷◌, ◌++◌, length, drop, Option, Some, None, refl, sym, ap, subst, ◌∙◌, arith, append_assoc, length-append, if◌then◌else◌}
-use Rattle.std.specs.Prelude.{codes, flat_map, ◌==◌, IfSome}
+use Rattle.std.specs.Prelude.{flat_map, ◌==◌, IfSome}
 use Rattle.std.proofs.lemmas.List.{append-nil}
 use Rattle.std.proofs.Math.Seq.{drop-append-add}
 use Rattle.mk_field.specs.declared.map.AddMap.{AddMap}
 use Rattle.mk_lines.specs.declared.words.TheConstants.{MOST_LINE}
 use Rattle.mk_lines.specs.Words.{line, is_line}
-use Rattle.mk_lines.specs.CertLines.{op_line, claim_line}
 use Rattle.mk_lines.specs.Lines.{NamesFirst}
 use Rattle.mk_lines.proofs.Steps.{same_some}
 use Rattle.mk_bundle.specs.declared.TheConstants.{MOST_HELD}
@@ -15,7 +14,8 @@ use Rattle.mk_bundle.specs.declared.draft.Stage.TheVariants.{Ended}
 use Rattle.mk_bundle.specs.declared.event.Head.{Head}
 use Rattle.mk_bundle.specs.declared.event.Event.{Event}
 use Rattle.mk_bundle.specs.declared.event.Event.TheVariants as event
-use Rattle.mk_bundle.specs.Events.{StandFor, has_begun}
+use Rattle.mk_bundle.specs.Events.{has_begun}
+use Rattle.mk_bundle.specs.Standing.{event_text}
 use Rattle.mk_bundle.specs.Versions.{Partial, Positions, Registers, begin, partial_read, partials_read, stage_of, maps_of, untold, events_so_far, has_begun_so_far}
 use Rattle.mk_bundle.specs.Noting.{Noted, Noting, noted, refusal_in, line_noted}
 use Rattle.mk_bundle.specs.Reads.{Reader, IsGoing, listed, to_come, IsOfBoth, Read}
@@ -94,13 +94,13 @@ nothing_waits r None free = tt
 nothing_waits r (Some e) free = absurd cc
 
 -- no event stands for no lines
-pub none_stand : (waiting : Option Event) → waiting ≡ None → (own : List ℕ) → StandFor (listed waiting) own → own ≡ []
-none_stand None free own stand = stand
-none_stand (Some e) free own stand = absurd cc
+pub none_stand : (waiting : Option Event) → waiting ≡ None → flat_map event_text (listed waiting) ≡ []
+none_stand waiting free = ap (λ (w : Option Event). flat_map event_text (listed w)) free
 
 -- where no event waits, the bytes that are held are few
 few_held : (old : Reader) (taken : List ℕ) (events : List Event) → old.waiting ≡ None → Read old taken events → length old.pending ≤ MOST_HELD
-few_held old taken events free r = r.short [] (subst (λ (w : Option Event). StandFor (listed w) []) (sym free) refl)
+few_held old taken events free r =
+    omega (arith, r.short, length-append (flat_map event_text (listed old.waiting)) old.pending)
 
 -- where no event waits, the events are all events of the lines
 pub all_told : (old : Reader) (taken : List ℕ) (events : List Event) → old.waiting ≡ None → (r : Read old taken events) → IfSome (events_so_far r.state) (λ all. events ≡ all)
@@ -123,7 +123,7 @@ reads_nothing r is free none held nothing = record {
   count = nothing;
   within = omega (arith, nothing);
   waits = nothing_waits r r.waiting free;
-  short = λ own stand. omega (arith, length-append own r.pending, ap length (none_stand r.waiting free own stand), ap length held);
+  short = omega (arith, length-append (flat_map event_text (listed r.waiting)) r.pending, ap length (none_stand r.waiting free), ap length held);
 }
 
 -- ---- a line that is read
@@ -147,9 +147,10 @@ pub behind_line : (pending l behind : List ℕ) → pending ≡ l ++ 10 ∷ behi
 behind_line pending l behind here = ap (drop (length l + 1)) here ∙ drop-append-add l (10 ∷ behind) 1
 
 -- what is held behind a line
-less_held : (old : Reader) (taken : List ℕ) (events : List Event) (l behind own : List ℕ) → old.waiting ≡ None → Read old taken events → old.pending ≡ l ++ 10 ∷ behind → StandFor (listed old.waiting) own → length (own ++ behind) ≤ MOST_HELD
-less_held old taken events l behind own free r here stand =
-    omega (arith, few_held old taken events free r, ap length (none_stand old.waiting free own stand), length-append own behind, ap length here, length-append l (10 ∷ behind))
+less_held : (old : Reader) (taken : List ℕ) (events : List Event) (l behind : List ℕ) → old.waiting ≡ None → Read old taken events → old.pending ≡ l ++ 10 ∷ behind → length (flat_map event_text (listed old.waiting) ++ behind) ≤ MOST_HELD
+less_held old taken events l behind free r here =
+    let own : List ℕ = flat_map event_text (listed old.waiting) in
+    omega (arith, few_held old taken events free r, ap length (none_stand old.waiting free), length-append own behind, ap length here, length-append l (10 ∷ behind))
 
 -- a line without an event
 pub reads_quiet : (old new : Reader) (n : Noted) (l behind : List ℕ) → old.waiting ≡ None → is_line l ≡ true → old.pending ≡ l ++ 10 ∷ behind → line_noted old.noted l ≡ Some (n, None)
@@ -171,7 +172,7 @@ reads_quiet old new n l behind free clean here e is taken events r =
       count = r.count;
       within = r.within;
       waits = nothing_waits now old.waiting free;
-      short = λ own stand. less_held old taken events l behind own free r here stand;
+      short = less_held old taken events l behind free r here;
     })
 
 -- a reader keeps whether the lines of the maps ended
@@ -206,7 +207,7 @@ reads_told old new n e l behind free clean here counted started is taken events 
       count = r.count;
       within = r.within;
       waits = nothing_waits now old.waiting free;
-      short = λ own stand. less_held old taken events l behind own free r here stand;
+      short = less_held old taken events l behind free r here;
     })
 
 -- a line with an event, where the lines of the maps end before it: the head is told, and the event waits
@@ -242,30 +243,17 @@ reads_head old new n e l behind free going clean here counted started differs is
       count = r.count;
       within = r.within;
       waits = (own_is.0, told_clean old.noted n e l counted differs early);
-      short = λ own stand. one own stand (few_held old taken events free r);
+      short = one (few_held old taken events free r);
     })
   where
-    one : (own : List ℕ) → StandFor (e ∷ []) own → length old.pending ≤ MOST_HELD → length (own ++ behind) ≤ MOST_HELD
-    one own stand few =
-        let is : stand.0 ≡ line l = (own_line old.noted n e l going started counted).1 stand.0 stand.3 in
-        omega (arith, few, ap length stand.2, length-append stand.0 stand.1, ap length stand.4, ap length is, length-append l (10 ∷ []), length-append own behind, ap length here, length-append l (10 ∷ behind))
-
--- an event of both versions stands for a line
-both_line : (e : Event) → IsOfBoth e → (own : List ℕ) × StandFor (e ∷ []) own
-both_line (event.Block op) is = (op_line op, (op_line op, [], sym (append-nil (op_line op)), refl, refl))
-both_line (event.Claim value) is = (claim_line value, (claim_line value, [], sym (append-nil (claim_line value)), refl, refl))
-both_line event.Code is = (line (codes "code"), (line (codes "code"), [], sym (append-nil (line (codes "code"))), refl, refl))
-both_line (event.Head head) is = absurd is
-both_line (event.Instr instr) is = absurd is
-both_line (event.Out positions) is = absurd is
-both_line event.End is = absurd is
+    one : length old.pending ≤ MOST_HELD → length (flat_map event_text (e ∷ []) ++ behind) ≤ MOST_HELD
+    one few =
+        let own : length (event_text e) ≡ length (line l) = ap length (own_line old.noted n e l going started counted).1 in
+        omega (arith, few, own, length-append (event_text e ++ []) behind, length-append (event_text e) [], length-append l (10 ∷ []), ap length here, length-append l (10 ∷ behind))
 
 -- the event that waits is answered
 pub reads_waiting : (old new : Reader) (e : Event) → old.waiting ≡ Some e → new ≡ record old { waiting = None } → (taken : List ℕ) (events : List Event) → Read old taken events → Read new taken (events ++ e ∷ [])
 reads_waiting old new e waits is taken events r =
-    let both : IsOfBoth e × (refusal_in old.noted.form ≡ None) = subst (λ (w : Option Event). IfSome w (λ e. IsOfBoth e × (refusal_in old.noted.form ≡ None))) waits r.waits in
-    let own = both_line e both.0 in
-    let few : length (own.0 ++ old.pending) ≤ MOST_HELD = r.short own.0 (subst (λ (w : Option Event). StandFor (listed w) own.0) (sym waits) own.1) in
     subst (λ (x : Reader). Read x taken (events ++ e ∷ [])) (sym is) (record {
       lines = r.lines;
       state = r.state;
@@ -278,7 +266,7 @@ reads_waiting old new e waits is taken events r =
       count = r.count;
       within = r.within;
       waits = tt;
-      short = λ none stand. omega (arith, few, length-append own.0 old.pending, ap length stand, length-append none old.pending);
+      short = omega (arith, r.short, length-append (flat_map event_text (listed old.waiting)) old.pending);
     })
 
 -- an event of both versions isn't the last one

@@ -1,12 +1,15 @@
--- Reading a bundle text line by line, of which counts and events are kept: for the contracts inside the crate.
+-- Reading a bundle text of version 1 line by line, of which counts and events are kept: for the contracts inside the crate.
+-- The lines that both versions have are counted so in version 2 too.
 use Rattle.std.specs.Prelude.{◌≡◌, ℕ, ◌+◌, ◌*◌, ◌≤◌, Bool, ◌&&◌, List, [], ◌∷◌, ◌++◌, length, Option, Some, None, Result, Ok, Err, nat_lt, bytes_eq, codes, if◌then◌else◌}
+use Rattle.mk_base.specs.declared.TheConstants.{TOP_ORDER}
 use Rattle.mk_field.specs.declared.field.FieldId.{FieldId}
 use Rattle.mk_field.specs.declared.map.AddMap.{AddMap}
 use Rattle.mk_field.specs.Field.{has_maps}
 use Rattle.mk_code.specs.declared.instr.Instr.{Instr}
 use Rattle.mk_code.specs.Listing.{inputs_len}
 use Rattle.mk_code.specs.declared.TheConstants.{MOST_INPUTS, MOST_MAPS, MOST_INSTRS}
-use Rattle.mk_rules.specs.declared.TheConstants.{TEXT_TOP_ORDER, MOST_BLOCKS, MOST_CLAIMS}
+use Rattle.mk_rules.specs.declared.TheConstants.{MOST_BLOCKS, MOST_CLAIMS}
+use Rattle.mk_bundle.specs.declared.TheConstants.{TEXT_TOP_ORDER}
 use Rattle.mk_bundle.specs.declared.draft.Draft.{Draft}
 use Rattle.mk_bundle.specs.declared.draft.Stage.{Stage}
 use Rattle.mk_bundle.specs.declared.draft.Stage.TheVariants.{Version, Field, Order, Secrets, Publics, Upper, Lower, Ended}
@@ -64,9 +67,9 @@ summary st untold = record {
   outs = length st.code.outs;
 }
 
--- the bounds that a count of entries needs
+-- the bounds that a count of entries needs, in either version
 pub record HasBounds (seen : Seen) : Type 0 where
-  pub order : seen.order ≤ TEXT_TOP_ORDER
+  pub order : seen.order ≤ TOP_ORDER
   pub secrets : seen.secrets ≤ MOST_INPUTS
   pub publics : seen.publics ≤ MOST_INPUTS
   pub instrs : seen.instrs ≤ MOST_INSTRS
@@ -91,10 +94,10 @@ field_counted seen line = do
   field ← field_of line
   Some (record seen { stage = Order; field = field }, None)
 
--- the line of the order, which is 1 to 8
-unfoldable pub order_counted : Seen → List ℕ → Counted
-order_counted seen line = do
-  n ← headed (codes "order ") TEXT_TOP_ORDER line
+-- the line of the order, which is 1 to `most`
+unfoldable pub order_counted : ℕ → Seen → List ℕ → Counted
+order_counted most seen line = do
+  n ← headed (codes "order ") most line
   if nat_lt n 1 then None else Some (record seen { stage = Secrets; order = n }, None)
 
 -- the line of the number of secrets
@@ -176,11 +179,11 @@ lower_counted seen line =
     behind (after (codes "out") line) (out_counted seen) (
     if bytes_eq line (codes "end") then Some (record seen { stage = Ended }, Some event.End) else instr_counted seen line)
 
--- one line more
+-- one line more, in which the order is one of version 1
 unfoldable pub counted_at : Stage → Seen → List ℕ → Counted
 counted_at Version seen line = version_counted seen line
 counted_at Field seen line = field_counted seen line
-counted_at Order seen line = order_counted seen line
+counted_at Order seen line = order_counted TEXT_TOP_ORDER seen line
 counted_at Secrets seen line = secrets_counted seen line
 counted_at Publics seen line = publics_counted seen line
 counted_at Upper seen line = upper_counted seen line

@@ -1,14 +1,8 @@
--- The events that the text of a pair is read as, and the lines for which they stand in a text of either version.
-use Rattle.std.specs.Prelude.{◌≡◌, ℕ, zero, suc, ◌+◌, ◌/◌, ◌⊎◌, Bool, true, false, not, ◌&&◌, List, [], ◌∷◌, ◌++◌, length, take, drop, map, flat_map, codes, nat_lt, if◌then◌else◌}
+-- The events that the text of a pair is read as.
+use Rattle.std.specs.Prelude.{◌≡◌, ℕ, zero, suc, ◌+◌, ◌/◌, Bool, true, false, not, ◌&&◌, List, [], ◌∷◌, ◌++◌, length, take, drop, map, nat_lt, if◌then◌else◌}
 use Rattle.mk_code.specs.Listing.{Listing}
-use Rattle.mk_regs.specs.declared.instr.RegInstr.{RegInstr}
-use Rattle.mk_regs.specs.Form.{RegListing, operation, with_operands}
 use Rattle.mk_rules.specs.Claimed.{Claimed}
 use Rattle.mk_rules.specs.Pairs.{IsPair}
-use Rattle.mk_lines.specs.Words.{line}
-use Rattle.mk_lines.specs.CertLines.{op_line, claim_line}
-use Rattle.mk_lines.specs.CodeLines.{map_line, instr_line, out_line}
-use Rattle.mk_bundle.specs.Text.{head_lines, register_line, register_front}
 use Rattle.mk_bundle.specs.declared.draft.Stage.{Stage}
 use Rattle.mk_bundle.specs.declared.draft.Stage.TheVariants.{Version, Field, Order, Secrets, Publics, Upper, Lower, Ended}
 use Rattle.mk_bundle.specs.declared.event.Head.{Head}
@@ -43,43 +37,6 @@ events_of code cert = lower_events code cert ++ event.End ∷ []
 -- the events of some pair begin with these
 abbrev pub AreFirst : List Event → Type 0
 AreFirst events = (code : Listing) × (cert : Claimed) × (rest : List Event) × IsPair code cert × (events_of code cert ≡ events ++ rest)
-
--- a code of this head, and nothing else
-abbrev pub headed_by : Head → Listing
-headed_by head = record { field = head.field; order = head.order; secrets = head.secrets; publics = head.publics; maps = head.maps; instrs = []; outs = [] }
-
--- code over so many registers of this head, and nothing else
-abbrev pub over_registers : Head → ℕ → RegListing
-over_registers head registers = record {
-  field = head.field;
-  order = head.order;
-  secrets = head.secrets;
-  publics = head.publics;
-  registers = registers;
-  maps = head.maps;
-  instrs = [];
-  outs = [];
-}
-
--- the bytes are the lines for which an event stands in a text of version 1 or 2: for the head those up to the last map, or
--- to the number of registers, and for each other event one. In version 2 the lines of an instruction and of an output
--- have registers, where the event has the positions of what these hold
-abbrev pub StandsFor : Event → List ℕ → Type 0
-StandsFor (event.Head head) bytes =
-    (bytes ≡ head_lines (headed_by head) ++ flat_map map_line head.maps) ⊎ ((registers : ℕ) × (bytes ≡ register_front (over_registers head registers)))
-StandsFor (event.Block op) bytes = bytes ≡ op_line op
-StandsFor (event.Claim value) bytes = bytes ≡ claim_line value
-StandsFor event.Code bytes = bytes ≡ line (codes "code")
-StandsFor (event.Instr instr) bytes =
-    (bytes ≡ instr_line instr) ⊎ ((r : RegInstr) × (f : ℕ → ℕ) × (instr ≡ with_operands f (operation r)) × (bytes ≡ register_line r))
-StandsFor (event.Out positions) bytes =
-    (bytes ≡ out_line positions) ⊎ ((registers : List ℕ) × (f : ℕ → ℕ) × (positions ≡ map f registers) × (bytes ≡ out_line registers))
-StandsFor event.End bytes = bytes ≡ line (codes "end")
-
--- the bytes are the lines for which these events stand, one event after the other
-abbrev pub StandFor : List Event → List ℕ → Type 0
-StandFor [] bytes = bytes ≡ []
-StandFor (e ∷ es) bytes = (own : List ℕ) × (others : List ℕ) × (bytes ≡ own ++ others) × StandsFor e own × StandFor es others
 
 -- the lines of the maps ended: at a stage, with so many blocks and claims
 abbrev pub has_begun : Stage → ℕ → ℕ → Bool

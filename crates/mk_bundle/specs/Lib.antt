@@ -8,6 +8,7 @@ pub mod RegisterReading
 pub mod Versions
 pub mod Counting
 pub mod Noting
+pub mod Standing
 pub mod Taking
 pub mod Reads
 pub mod Stepping

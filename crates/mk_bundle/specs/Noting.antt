@@ -1,6 +1,7 @@
 -- Reading a bundle text of either version line by line, of which counts, events and what the registers hold are kept: for
 -- the contracts inside the crate.
 use Rattle.std.specs.Prelude.{ℕ, ◌+◌, ◌*◌, ◌^◌, ◌≤◌, Bool, ◌&&◌, List, map, length, Option, Some, None, is_some, nat_lt, bytes_eq, codes, if◌then◌else◌}
+use Rattle.mk_base.specs.declared.TheConstants.{TOP_ORDER}
 use Rattle.mk_field.specs.declared.map.AddMap.{AddMap}
 use Rattle.mk_code.specs.declared.instr.Instr.{Instr}
 use Rattle.mk_code.specs.Listing.{inputs_len}
@@ -23,7 +24,7 @@ use Rattle.mk_bundle.specs.declared.event.Event.TheVariants as event
 use Rattle.mk_bundle.specs.Reading.{headed}
 use Rattle.mk_bundle.specs.RegisterReading.{RegisterState, has_parts}
 use Rattle.mk_bundle.specs.Versions.{Partial, Positions, Registers, register_code}
-use Rattle.mk_bundle.specs.Counting.{Seen, seen_of, summary, HasBounds, Counted, version_counted, map_counted, cert_counted, counted_at}
+use Rattle.mk_bundle.specs.Counting.{Seen, seen_of, summary, HasBounds, Counted, version_counted, order_counted, map_counted, cert_counted, counted_at}
 
 -- what is kept of what was read: the counts, and the form of its instructions with what the registers hold
 pub record Noted : Type 0 where
@@ -178,11 +179,11 @@ position_noted Upper seen line = keep form.Positions (counted_at Upper seen line
 position_noted Lower seen line = keep form.Positions (counted_at Lower seen line)
 position_noted Ended seen line = None
 
--- one line more of version 2
+-- one line more of version 2, in which the order may be any
 unfoldable pub register_noted : Stage → Form → Seen → List ℕ → Noting
 register_noted Version f seen line = None
 register_noted Field f seen line = keep f (counted_at Field seen line)
-register_noted Order f seen line = keep f (counted_at Order seen line)
+register_noted Order f seen line = keep f (order_counted TOP_ORDER seen line)
 register_noted Secrets f seen line = keep f (counted_at Secrets seen line)
 register_noted Publics f seen line = keep f (counted_at Publics seen line)
 register_noted Upper f seen line = upper_noted f seen line

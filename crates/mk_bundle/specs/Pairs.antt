@@ -12,18 +12,25 @@ use Rattle.mk_lines.specs.CodeLines.{IntoFits}
 use Rattle.mk_rules.specs.declared.TheConstants.{MOST_BLOCKS, MOST_CLAIMS}
 use Rattle.mk_rules.specs.Claimed.{Claimed}
 use Rattle.mk_rules.specs.Pairs.{IsPair}
+use Rattle.mk_bundle.specs.declared.TheConstants.{TEXT_TOP_ORDER}
 use Rattle.mk_bundle.specs.Text.{text, register_text}
 
--- these bytes are the text of this code and certificate, which are a pair
+-- code over positions and its certificate have a text: they are a pair, of a masking order that version 1 has, which is
+-- at most 8
+pub record IsTextPair (code : Listing) (cert : Claimed) : Type 0 where
+  pub pair : IsPair code cert
+  pub order : code.order ≤ TEXT_TOP_ORDER
+
+-- these bytes are the text of this code and certificate, which have one
 abbrev pub IsTextOf : List ℕ → Listing → Claimed → Type 0
-IsTextOf bytes code cert = IsPair code cert × (bytes ≡ text code cert)
+IsTextOf bytes code cert = IsTextPair code cert × (bytes ≡ text code cert)
 
 -- the numbers of an instruction have 32 bits, and its element is a byte
 abbrev pub RegisterFits : RegInstr → Type 0
 RegisterFits i = IntoFits (target i) (operation i)
 
--- code over registers and a certificate of any blocks and claims, within the limits of a text. Its instructions and
--- outputs may name any registers of 32 bits
+-- code over registers and a certificate of any blocks and claims, within the limits of a text of version 2, which has
+-- every masking order. Its instructions and outputs may name any registers of 32 bits
 pub record IsRegisterPair (r : RegListing) (cert : Claimed) : Type 0 where
   pub listing : IsRegListing r
   pub maps : AllByRecursion MapFits r.maps
@@ -72,7 +79,8 @@ VersionsDiffer = (bytes rest : List ℕ) (code : Listing) (r : RegListing) (cert
     × (IsRegisterTextOf (bytes ++ rest) r registers_cert → IsTextOf bytes code cert → ⊥)
 
 -- the text of a bundle is read in one way: it is that of one code and certificate, or of register code that can't be
--- renamed for one reason, and no text of a bundle is a proper front of another
+-- renamed, for one reason, and never of both. No text of a code and certificate is a proper front of another such text; of
+-- all texts of bundles the three laws above say so
 pub record TextsReadOnce : Type 0 where
   pub pairs : (bytes rest : List ℕ) (code other_code : Listing) (cert other_cert : Claimed)
       → IsBundleOf (bytes ++ rest) code cert → IsBundleOf bytes other_code other_cert

@@ -1,4 +1,5 @@
--- Reading a bundle text line by line, up to the pair that it is the text of.
+-- Reading a bundle text of version 1 line by line, up to the pair that it is the text of. Both versions have the lines of
+-- the field, the order, the numbers of secrets and publics, the maps, the blocks, the claims and the code's beginning.
 use Rattle.std.specs.Prelude.{ℕ, ◌+◌, ◌*◌, Bool, true, ◌&&◌, List, [], ◌∷◌, ◌++◌, length, Option, Some, None, nat_lt, bytes_eq, codes, if◌then◌else◌}
 use Rattle.mk_field.specs.declared.field.FieldId.{FieldId}
 use Rattle.mk_field.specs.declared.field.FieldId.TheVariants.{Gf2}
@@ -7,8 +8,9 @@ use Rattle.mk_code.specs.declared.instr.Instr.{Instr}
 use Rattle.mk_code.specs.declared.instr.Instr.TheVariants.{Rnd, Const, Copy, Add, Mul, Sq, Map}
 use Rattle.mk_code.specs.Listing.{Listing, trace_len}
 use Rattle.mk_code.specs.declared.TheConstants.{MOST_INPUTS, MOST_MAPS, MOST_INSTRS}
-use Rattle.mk_rules.specs.declared.TheConstants.{TEXT_TOP_ORDER, MOST_BLOCKS, MOST_CLAIMS}
+use Rattle.mk_rules.specs.declared.TheConstants.{MOST_BLOCKS, MOST_CLAIMS}
 use Rattle.mk_rules.specs.Claimed.{Claimed}
+use Rattle.mk_bundle.specs.declared.TheConstants.{TEXT_TOP_ORDER}
 use Rattle.mk_bundle.specs.declared.draft.Stage.{Stage}
 use Rattle.mk_bundle.specs.declared.draft.Stage.TheVariants.{Version, Field, Order, Secrets, Publics, Upper, Lower, Ended}
 use Rattle.mk_lines.specs.Parsing.{◌>>=◌, after, field_of, number_of, map_of, operand_of, op_of, instr_of, behind, positions_of}
@@ -45,10 +47,10 @@ headed name most line = do
   n ← number_of rest
   if nat_lt most n then None else Some n
 
--- the line of the order, which is 1 to 8
-unfoldable pub order_read : State → List ℕ → Option State
-order_read st line = do
-  n ← headed (codes "order ") TEXT_TOP_ORDER line
+-- the line of the order, which is 1 to `most`
+unfoldable pub order_read : ℕ → State → List ℕ → Option State
+order_read most st line = do
+  n ← headed (codes "order ") most line
   if nat_lt n 1 then None else Some (record st { stage = Secrets; code = record st.code { order = n } })
 
 -- the line of the number of secrets
@@ -133,11 +135,11 @@ lower_read st line =
     behind (after (codes "out") line) (out_read st) (
     if bytes_eq line (codes "end") then Some (record st { stage = Ended }) else instr_read st line)
 
--- one line more
+-- one line more, in which the order is one of version 1
 unfoldable pub read_at : Stage → State → List ℕ → Option State
 read_at Version st line = version_line st line
 read_at Field st line = field_read st line
-read_at Order st line = order_read st line
+read_at Order st line = order_read TEXT_TOP_ORDER st line
 read_at Secrets st line = secrets_read st line
 read_at Publics st line = publics_read st line
 read_at Upper st line = upper_read st line

@@ -14,9 +14,10 @@ use Rattle.mk_bundle.specs.declared.event.Event.{Event}
 use Rattle.mk_bundle.specs.declared.event.Event.TheVariants as event
 use Rattle.mk_bundle.specs.declared.refusal.StreamRefusal.{StreamRefusal}
 use Rattle.mk_bundle.specs.declared.refusal.StreamRefusal.TheVariants as refusals
-use Rattle.mk_bundle.specs.Events.{events_of, StandFor, AreFirst}
+use Rattle.mk_bundle.specs.Events.{events_of, AreFirst}
 use Rattle.mk_bundle.specs.Versions.{Partial, begin, partials_read, events_so_far, untold}
 use Rattle.mk_bundle.specs.Noting.{Noted, noted, refusal_in}
+use Rattle.mk_bundle.specs.Standing.{event_text, StandFor}
 use Rattle.mk_bundle.specs.Taking.{Comes}
 
 -- a reader: what it keeps of the lines that it read, the event that it answers next, how many lines it read, the
@@ -67,10 +68,11 @@ pub record Read (reader : Reader) (taken : List ℕ) (events : List Event) : Typ
   pub count : reader.count ≡ length taken
   pub within : reader.count ≤ reader.limit
   pub waits : IfSome reader.waiting (λ e. IsOfBoth e × (refusal_in reader.noted.form ≡ None))
-  pub short : (own : List ℕ) → StandFor (listed reader.waiting) own → length (own ++ reader.pending) ≤ MOST_HELD
+  pub short : length (flat_map event_text (listed reader.waiting) ++ reader.pending) ≤ MOST_HELD
 
 -- what holds of the bytes and the events so far: the events are the first ones of some pair, at most as many as bytes
--- may come, the bytes begin with the lines for which they stand, and behind these are at most MOST_HELD
+-- may come, the bytes begin with the lines for which they stand in version 1 or in version 2, and behind these are at
+-- most MOST_HELD
 pub record Follows (limit : ℕ) (taken : List ℕ) (events : List Event) : Type 0 where
   pub first : AreFirst events
   pub few : length events ≤ limit

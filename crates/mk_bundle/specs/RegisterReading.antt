@@ -1,5 +1,6 @@
 -- Reading a bundle text of version 2 line by line, up to the register code and the certificate that it is the text of.
 use Rattle.std.specs.Prelude.{ℕ, ◌+◌, ◌*◌, ◌^◌, Bool, true, ◌&&◌, List, [], ◌∷◌, ◌++◌, length, Option, Some, None, nat_lt, bytes_eq, codes, if◌then◌else◌}
+use Rattle.mk_base.specs.declared.TheConstants.{TOP_ORDER}
 use Rattle.mk_field.specs.declared.field.FieldId.{FieldId}
 use Rattle.mk_field.specs.Field.{size}
 use Rattle.mk_code.specs.declared.instr.Instr.{Instr}
@@ -81,11 +82,11 @@ register_lower_read st line =
     behind (after (codes "out") line) (register_out_read st) (
     if bytes_eq line (codes "end") then Some (record st { shared = record st.shared { stage = Ended } }) else register_instr_read st line)
 
--- one line more
+-- one line more, in which the order may be any
 unfoldable pub register_read_at : Stage → RegisterState → List ℕ → Option RegisterState
 register_read_at Version st line = register_version_line st line
 register_read_at Field st line = share st (field_read st.shared line)
-register_read_at Order st line = share st (order_read st.shared line)
+register_read_at Order st line = share st (order_read TOP_ORDER st.shared line)
 register_read_at Secrets st line = share st (secrets_read st.shared line)
 register_read_at Publics st line = share st (publics_read st.shared line)
 register_read_at Upper st line = register_upper_read st.registers st line

@@ -1,7 +1,8 @@
--- The texts of small pairs and the events of one, computed.
-use Rattle.std.specs.Prelude.{◌≡◌, ℕ, ◌+◌, List, [], ◌∷◌, ◌++◌, None, codes, refl}
+-- The texts of small pairs, the events of one, and which orders the versions have, computed.
+use Rattle.std.specs.Prelude.{◌≡◌, ℕ, List, [], ◌∷◌, ◌++◌, Some, None, codes, refl}
 use Rattle.std.proofs.Common.{inl, inr}
 use Rattle.std.specs.Fmt.{digits}
+use Rattle.mk_base.specs.Digits.{valued}
 use Rattle.mk_field.specs.declared.field.FieldId.TheVariants.{Gf256}
 use Rattle.mk_ssa.specs.declared.Operand.TheVariants.{Secret, Public, Block}
 use Rattle.mk_ssa.specs.declared.Op.TheVariants as op
@@ -13,10 +14,15 @@ use Rattle.mk_regs.specs.Renaming.{renamed_instrs, held_behind, renamed, outs_re
 use Rattle.mk_rules.specs.Claimed.{Claimed}
 use Rattle.mk_lines.specs.Words.{line}
 use Rattle.mk_lines.specs.CodeLines.{out_lines}
+use Rattle.mk_lines.specs.Parsing.{after, whole, leads, number_by, number_at, number_of}
 use Rattle.mk_bundle.specs.Text.{text, register_text}
+use Rattle.mk_bundle.specs.Reading.{start, headed, order_read, read_at}
+use Rattle.mk_bundle.specs.RegisterReading.{register_start, register_read_at}
+use Rattle.mk_bundle.specs.declared.draft.Stage.TheVariants.{Order, Secrets}
 use Rattle.mk_bundle.specs.declared.event.Event.{Event}
 use Rattle.mk_bundle.specs.declared.event.Event.TheVariants as event
-use Rattle.mk_bundle.specs.Events.{outs_of, events_of, StandFor}
+use Rattle.mk_bundle.specs.Events.{outs_of, events_of}
+use Rattle.mk_bundle.specs.Standing.{StandFor}
 
 -- the sum of two secrets: shares 0 and 1 are those of the first secret, 2 and 3 those of the second
 abbrev pub sum_code : Listing
@@ -100,109 +106,50 @@ pub events-sum : events_of sum_code sum_cert ≡ sum_events
 unfolding outs_of
 events-sum = refl
 
--- its first five lines
-abbrev first_five : List ℕ
-first_five = line (codes "mask 1") ++ line (codes "field gf256") ++ line (codes "order 1") ++ line (codes "secrets 2") ++ line (codes "publics 0")
-
 -- they stand for its lines
 pub stand-sum : StandFor sum_events sum_text
 unfolding digits
-stand-sum = (
-  first_five,
-  _,
-  refl,
-  inl refl,
-  (
-    line (codes "block add s0 s1"),
-    _,
-    refl,
-    refl,
-    (
-      line (codes "claim b0"),
-      _,
-      refl,
-      refl,
-      (
-        line (codes "code"),
-        _,
-        refl,
-        refl,
-        (
-          line (codes "add 0 2"),
-          _,
-          refl,
-          inl refl,
-          (
-            line (codes "add 1 3"),
-            _,
-            refl,
-            inl refl,
-            (
-              line (codes "out 4 5"),
-              _,
-              refl,
-              inl refl,
-              (line (codes "end"), [], refl, refl, refl),
-            ),
-          ),
-        ),
-      ),
-    ),
-  ),
-)
+stand-sum = inl refl
 
--- the first six lines of the sum over registers
-abbrev first_six : List ℕ
-first_six =
-    line (codes "mask 2") ++ line (codes "field gf256") ++ line (codes "order 1") ++ line (codes "secrets 2") ++ line (codes "publics 0") ++ line (codes "registers 4")
-
--- the same events stand for the lines of the sum over registers: the outs are read from registers 0 and 1, which hold
--- entries 4 and 5
+-- and for the lines of the sum over registers. Its instructions read registers that hold the shares, and write the sums
+-- into registers 0 and 1, which are the output: they hold entries 4 and 5
 pub stand-sum-registers : StandFor sum_events sum_register_text
-unfolding digits
-stand-sum-registers = (
-  first_six,
-  _,
-  refl,
-  inr (4, refl),
-  (
-    line (codes "block add s0 s1"),
+unfolding digits outs_refusal
+stand-sum-registers = inr (record {
+  head = record { field = Gf256; order = 1; secrets = 2; publics = 0; maps = [] };
+  registers = 4;
+  others = _;
+  rest = _;
+  first = refl;
+  front = refl;
+  stand = (
     _,
     refl,
-    refl,
     (
-      line (codes "claim b0"),
       _,
       refl,
-      refl,
       (
-        line (codes "code"),
         _,
         refl,
-        refl,
         (
-          line (codes "add 0 0 2"),
+          reg.Add 0 0 2,
           _,
           refl,
-          inr (reg.Add 0 0 2, (λ n. n), refl, refl),
+          refl,
+          refl,
           (
-            line (codes "add 1 1 3"),
+            reg.Add 1 1 3,
             _,
             refl,
-            inr (reg.Add 1 1 3, (λ n. n), refl, refl),
-            (
-              line (codes "out 0 1"),
-              _,
-              refl,
-              inr (0 ∷ 1 ∷ [], (λ n. n + 4), refl, refl),
-              (line (codes "end"), [], refl, refl, refl),
-            ),
+            refl,
+            refl,
+            (0 ∷ 1 ∷ [], _, refl, refl, refl, ([], refl, refl)),
           ),
         ),
       ),
     ),
-  ),
-)
+  );
+})
 
 -- the register code of the sum is renamed to the sum over positions
 pub renamed-sum : renamed sum_registers ≡ sum_code
@@ -328,3 +275,30 @@ kinds_register_text =
 pub text-kinds-registers : register_text kinds_registers (record { blocks = op.Const 0x63 ∷ []; claims = Block 0 ∷ [] }) ≡ kinds_register_text
 unfolding digits out_lines
 text-kinds-registers = refl
+
+-- ---- orders
+
+-- version 1 has the order 8
+pub order-8 : read_at Order start (codes "order 8") ≡ Some (record start { stage = Secrets; code = record start.code { order = 8 } })
+unfolding read_at order_read headed after number_of number_at number_by leads valued whole
+order-8 = refl
+
+-- it hasn't the order 9
+pub order-9 : read_at Order start (codes "order 9") ≡ None
+unfolding read_at order_read headed after number_of number_at number_by leads valued whole
+order-9 = refl
+
+-- version 2 has the order 15
+pub register-order-15 : register_read_at Order register_start (codes "order 15") ≡ Some (record register_start { shared = record start { stage = Secrets; code = record start.code { order = 15 } } })
+unfolding register_read_at order_read headed after number_of number_at number_by leads valued whole
+register-order-15 = refl
+
+-- it hasn't the order 16
+pub register-order-16 : register_read_at Order register_start (codes "order 16") ≡ None
+unfolding register_read_at order_read headed after number_of number_at number_by leads valued whole
+register-order-16 = refl
+
+-- and no order has a leading zero
+pub register-order-09 : register_read_at Order register_start (codes "order 09") ≡ None
+unfolding register_read_at order_read headed after number_of number_at number_by leads valued whole
+register-order-09 = refl

@@ -4,7 +4,7 @@ use Rattle.std.specs.Borrow.{Bor}
 use Rattle.mk_bundle.specs.declared.TheConstants.{MOST_HELD}
 use Rattle.mk_code.specs.declared.instr.Instr.{Instr}
 use Rattle.mk_lines.specs.Words.{is_line}
-use Rattle.mk_lines.specs.Parsing.{instr_of}
+use Rattle.mk_lines.specs.Parsing.{instr_of, into_of}
 use Rattle.mk_bundle.specs.declared.refusal.StreamRefusal.{StreamRefusal}
 use Rattle.mk_bundle.specs.declared.refusal.StreamRefusal.TheVariants as refusals
 
@@ -77,6 +77,16 @@ pub record IsInstrLine (i : Instr) (n : ℕ) (pending : List ℕ) : Type 0 where
   pub line : List ℕ
   pub clean : is_line line ≡ true
   pub reads : instr_of line ≡ Some i
+  pub len : length line ≡ n
+  pub some : 1 ≤ n
+  pub behind : List ℕ
+  pub here : pending ≡ line ++ 10 ∷ behind
+
+-- the same of an instruction over registers, which stands behind the register that it writes
+pub record IsIntoLine (x : ℕ × Instr) (n : ℕ) (pending : List ℕ) : Type 0 where
+  pub line : List ℕ
+  pub clean : is_line line ≡ true
+  pub reads : into_of line ≡ Some x
   pub len : length line ≡ n
   pub some : 1 ≤ n
   pub behind : List ℕ

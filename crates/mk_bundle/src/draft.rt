@@ -1,15 +1,18 @@
-//! What was read of a bundle text so far, and how a line goes on with it.
+//! What was read of a bundle text of version 1 so far, and how a line goes on with it. The lines that both versions have
+//! are read so in version 2 too.
 
 ghost use Rattle.std.specs.Prelude.{◌≡◌, ◌≤◌, ◌<◌, ◌+◌, ◌*◌, [], IfSome, IsTrue, ◌↔◌};
 ghost use Rattle.mk_bundle.specs.declared.draft.Stage.TheVariants.{Lower, Ended};
+ghost use Rattle.mk_base.specs.declared.TheConstants.{TOP_ORDER};
 ghost use Rattle.mk_field.specs.Field.{size};
 ghost use Rattle.mk_code.specs.Listing.{inputs_len};
 ghost use Rattle.mk_code.specs.declared.TheConstants.{MOST_INPUTS, MOST_MAPS, MOST_INSTRS};
-ghost use Rattle.mk_rules.specs.declared.TheConstants.{TEXT_TOP_ORDER, MOST_BLOCKS};
+ghost use Rattle.mk_rules.specs.declared.TheConstants.{MOST_BLOCKS};
 ghost use Rattle.mk_bundle.specs.Events.{has_begun};
 ghost use Rattle.mk_bundle.specs.Reading.{start, headed, fits_at};
 ghost use Rattle.mk_bundle.specs.Counting.{seen_of, summary, HasBounds, Steps, entries, version_counted, field_counted, order_counted, secrets_counted, publics_counted, map_counts, map_counted, block_counts, block_counted, claim_counted, code_counted, cert_counted, upper_counted, instr_counts, instr_counted, out_counted, lower_counted, line_counted};
 
+use crate::TEXT_TOP_ORDER;
 use crate::event::{Event, Head};
 use mk_base::Items;
 use mk_code::{Instr, MOST_INPUTS, MOST_INSTRS, MOST_MAPS, MapList};
@@ -17,7 +20,7 @@ use mk_field::FieldId;
 use mk_lines::{
     LineRefusal, after, field_of, instr_of, map_of, number_of, op_of, operand_of, positions_of,
 };
-use mk_rules::{MOST_BLOCKS, MOST_CLAIMS, TEXT_TOP_ORDER};
+use mk_rules::{MOST_BLOCKS, MOST_CLAIMS};
 use std::alloc::Global;
 use std::mem;
 
@@ -130,15 +133,16 @@ pub(crate) fn headed(name: &[u8], most: u32, line: &[u8]) -> Option<u32>
     Some(number)
 }
 
-/// The line of the order.
+/// The line of the order, which is at most `most`.
 #[tactic(auto, unfolding(crate::specs::Counting::order_counted))]
-fn read_order(draft: &mut Draft, line: &[u8]) -> Line
-    requires { HasBounds (seen_of draft.old) }
-    ensures steps { Steps result (seen_of draft.new) (order_counted (seen_of draft.old) line.now) }
+pub(crate) fn read_order(draft: &mut Draft, most: u8, line: &[u8]) -> Line
+    requires bounds { HasBounds (seen_of draft.old) }
+    requires most { most ≤ TOP_ORDER }
+    ensures steps { Steps result (seen_of draft.new) (order_counted most (seen_of draft.old) line.now) }
     ensures bounds { HasBounds (seen_of draft.new) }
     ensures grows { draft.old.instrs ≤ draft.new.instrs }
 {
-    let number = headed(b"order ", u32::from(TEXT_TOP_ORDER), line).ok_or(LineRefusal::Form)?;
+    let number = headed(b"order ", u32::from(most), line).ok_or(LineRefusal::Form)?;
     if number < 1 {
         return Err(LineRefusal::Form);
     }
@@ -292,7 +296,7 @@ fn read_upper(draft: &mut Draft, line: &[u8]) -> Line
 pub(crate) fn inputs_len(draft: &Draft) -> u32
     requires { HasBounds (seen_of draft.now) }
     ensures value { result ≡ inputs_len draft.now.order draft.now.secrets draft.now.publics }
-    ensures few { result ≤ MOST_INPUTS * (TEXT_TOP_ORDER + 2) }
+    ensures few { result ≤ MOST_INPUTS * (TOP_ORDER + 2) }
 {
     draft.secrets * (u32::from(draft.order) + 1) + draft.publics
 }
@@ -403,7 +407,7 @@ fn read_lower(draft: &mut Draft, alloc: Global, line: &[u8]) -> Line
     read_instr(draft, line)
 }
 
-/// One line more.
+/// One line more of version 1.
 #[tactic(auto, unfolding(crate::specs::Counting::counted_at))]
 pub(crate) fn read_line(draft: &mut Draft, alloc: Global, line: &[u8]) -> Line
     requires { HasBounds (seen_of draft.old) }
@@ -414,7 +418,7 @@ pub(crate) fn read_line(draft: &mut Draft, alloc: Global, line: &[u8]) -> Line
     match draft.stage {
         Stage::Version => read_version(draft, line),
         Stage::Field => read_field(draft, line),
-        Stage::Order => read_order(draft, line),
+        Stage::Order => read_order(draft, TEXT_TOP_ORDER, line),
         Stage::Secrets => read_secrets(draft, line),
         Stage::Publics => read_publics(draft, line),
         Stage::Upper => read_upper(draft, line),

@@ -4,8 +4,8 @@ use mk_code::{Instr, MapList, PositionList};
 use mk_field::FieldId;
 use mk_ssa::{Op, Operand};
 
-/// What stands before the blocks: the field, the order, the numbers of secrets and of publics, and the additive maps
-/// in the order of their lines.
+/// What stands before the blocks, but for the number of registers: the field, the order, the numbers of secrets and of
+/// publics, and the additive maps in the order of their lines.
 #[derive(Debug, Drop)]
 pub struct Head {
     pub field: FieldId,
@@ -18,7 +18,7 @@ pub struct Head {
 /// What one line says, or the lines of the head together.
 #[derive(Debug, Drop)]
 pub enum Event {
-    /// The lines up to the last map.
+    /// The lines up to the last map, and in version 2 that of the number of registers too.
     Head(Head),
     /// A block.
     Block(Op),

@@ -12,7 +12,7 @@ use crate::refusal::StreamRefusal;
 use arrayvec::ArrayVec;
 use mk_base::{Memory, Source};
 use mk_code::Instr;
-use mk_lines::{MOST_LINE, cut, instr_at};
+use mk_lines::{MOST_LINE, cut, instr_at, into_at};
 use std::alloc::Global;
 use std::marker::Model;
 
@@ -42,7 +42,7 @@ impl Model for Input {
 
 impl Input {
     ghost use Rattle.mk_code.specs.declared.instr.Instr.{Instr};
-    ghost use Rattle.mk_bundle.specs.Taking.{Feeds, Drains, Fronts, IsInstrLine};
+    ghost use Rattle.mk_bundle.specs.Taking.{Feeds, Drains, Fronts, IsInstrLine, IsIntoLine};
 
     /// Nothing came yet.
     pub(crate) fn new(alloc: Global, limit: u32) -> Result<Input, Memory>
@@ -101,6 +101,23 @@ impl Input {
             return None;
         }
         Some((instr, held.len() - behind.len()))
+    }
+
+    /// The instruction over registers of the first line that is held, behind the register that it writes, and how many
+    /// bytes its line has before the line feed. `None` where it isn't the line of such an instruction.
+    pub(crate) fn instr_into(&self) -> Option<((u32, Instr), usize)>
+        ensures some { IfSome result (λ x. IsIntoLine x.0 x.1 self.now.pending) }
+        ensures none { IfNone result ((x : ℕ × Instr) (n : ℕ) → IsIntoLine x n self.now.pending → ⊥) }
+    {
+        let held = self.bytes();
+        let (into, behind) = into_at(held)?;
+        let [feed, ..] = behind else {
+            return None;
+        };
+        if *feed != b'\n' {
+            return None;
+        }
+        Some((into, held.len() - behind.len()))
     }
 
     /// Gives up the first bytes.

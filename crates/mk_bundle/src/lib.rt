@@ -13,10 +13,11 @@
 //! - for each instruction `rnd`, `const C`, `copy P`, `add P P`, `mul P P`, `sq P` or `map M P`;
 //! - `out` and the positions of its shares for each output, and then `end`.
 //!
-//! That is version 1, of code over positions. Version 2 is of code over registers. It is the same with these
+//! That is version 1, of code over positions, whose order T is 1 to 8. Version 2 is of code over registers. It is the same with these
 //! differences, D and S being registers:
 //!
 //! - the first line is `mask 2`, and `registers R` stands behind the maps, R being the number of registers;
+//! - the order T is 1 to 15;
 //! - the instructions are `rnd D`, `const D C`, `copy D S`, `add D S S`, `mul D S S`, `sq D S` or
 //!   `map D M S`, where D is the register that is written;
 //! - `out` has registers, which are read behind the last instruction.
@@ -45,6 +46,9 @@ mod write;
 
 /// The most bytes of a text that is read.
 pub const MOST_BYTES: u32 = 268_435_456;
+
+/// The greatest masking order of a text of version 1.
+pub const TEXT_TOP_ORDER: u8 = 8;
 
 /// The most bytes that a reader takes of a source behind the lines for which the events that it answered stand.
 pub const MOST_HELD: usize = 4096;

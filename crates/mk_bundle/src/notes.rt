@@ -12,9 +12,10 @@ ghost use Rattle.mk_bundle.specs.Noting.{Noted, noted_of, noted, renamed_in, IsB
 
 use crate::draft::{
     Draft, Line, Stage, count_instr, empty_draft, greatest, headed, inputs_len, read_cert,
-    read_line, read_map, read_version,
+    read_line, read_map, read_order, read_version,
 };
 use crate::event::Event;
+use mk_base::TOP_ORDER;
 use mk_code::{Instr, MOST_INPUTS, MOST_INSTRS};
 use mk_lines::{LineRefusal, after, into_of, positions_of};
 use mk_regs::{MOST_REGISTERS, RegInstr, RegRefusal, Renamer, rename_outs};
@@ -49,13 +50,6 @@ pub(crate) fn empty_notes(alloc: Global) -> Notes
         draft: empty_draft(alloc),
         form: Form::Positions,
     }
-}
-
-/// Whether operands are positions.
-pub(crate) fn is_over_positions(notes: &Notes) -> bool
-    ensures { IsTrue result ↔ (notes.now.form ≡ form.Positions) }
-{
-    matches!(notes.form, Form::Positions)
 }
 
 /// Why the registers can't be named or read, if so.
@@ -145,7 +139,7 @@ fn has_parts(draft: &Draft, instr: Instr) -> bool
 
 /// Whether the instruction over registers may stand here: before outputs.
 #[tactic(auto, unfolding(crate::specs::Noting::register_counts))]
-fn may_instr(draft: &Draft, instr: Instr) -> bool
+pub(crate) fn may_register_instr(draft: &Draft, instr: Instr) -> bool
     ensures counts { result ≡ register_counts (seen_of draft.now) instr }
     ensures few { IsTrue result → draft.now.instrs < MOST_INSTRS }
 {
@@ -172,6 +166,18 @@ fn rename(form: &mut Form, instr: RegInstr) -> Option<Event>
     }
 }
 
+/// Counts an instruction over registers and carries it out, and answers its event, if it has one.
+pub(crate) fn note_instr(notes: &mut Notes, instr: RegInstr) -> Option<Event>
+    requires bounds { IsBounded (noted_of notes.old) }
+    requires few { notes.old.draft.instrs < MOST_INSTRS }
+    ensures noted { noted_of notes.new ≡ record { seen = record (seen_of notes.old.draft) { instrs = notes.old.draft.instrs + 1 }; form = form_behind notes.old.form instr } }
+    ensures event { result ≡ instr_event notes.old.form instr }
+    ensures bounds { IsBounded (noted_of notes.new) }
+{
+    count_instr(&mut notes.draft);
+    rename(&mut notes.form, instr)
+}
+
 /// The line of an instruction over registers.
 #[tactic(auto, unfolding(crate::specs::Noting::register_instr_noted))]
 fn read_instr(notes: &mut Notes, line: &[u8]) -> Line
@@ -180,11 +186,10 @@ fn read_instr(notes: &mut Notes, line: &[u8]) -> Line
     ensures bounds { IsBounded (noted_of notes.new) }
 {
     let (to, operation) = into_of(line).ok_or(LineRefusal::Form)?;
-    if !may_instr(&notes.draft, operation) {
+    if !may_register_instr(&notes.draft, operation) {
         return Err(LineRefusal::Form);
     }
-    count_instr(&mut notes.draft);
-    Ok(rename(&mut notes.form, RegInstr::new(to, operation)))
+    Ok(note_instr(notes, RegInstr::new(to, operation)))
 }
 
 /// Reads registers as an output, and answers the event of the positions that they hold. Where one is refused, or one
@@ -270,7 +275,8 @@ fn read_over_registers(notes: &mut Notes, alloc: Global, line: &[u8]) -> Line
     ensures bounds { IsBounded (noted_of notes.new) }
 {
     match notes.draft.stage {
-        Stage::Field | Stage::Order | Stage::Secrets | Stage::Publics => {
+        Stage::Order => read_order(&mut notes.draft, TOP_ORDER, line),
+        Stage::Field | Stage::Secrets | Stage::Publics => {
             read_line(&mut notes.draft, alloc, line)
         }
         Stage::Upper => read_upper(notes, alloc, line),

@@ -5,19 +5,23 @@ ghost use Rattle.std.specs.Prelude.{◌≡◌, ◌≤◌, ◌<◌, ◌+◌, [], 
 ghost use Rattle.mk_base.specs.Outside.{Rose};
 ghost use Rattle.mk_lines.specs.declared.words.TheConstants.{MOST_LINE};
 ghost use Rattle.mk_bundle.specs.declared.refusal.StreamRefusal.TheVariants as refusals;
-ghost use Rattle.mk_bundle.specs.declared.draft.Stage.TheVariants.{Ended};
+ghost use Rattle.mk_bundle.specs.declared.draft.Stage.TheVariants.{Lower, Ended};
+ghost use Rattle.mk_bundle.specs.declared.notes.Form.TheVariants as form;
 ghost use Rattle.mk_bundle.specs.declared.event.Event.{Event};
 ghost use Rattle.mk_bundle.specs.declared.event.Event.TheVariants as event;
 
 use crate::draft::{count_instr, has_begun, is_ended, is_lower, may_instr, told_head};
 use crate::event::Event;
 use crate::input::Input;
-use crate::notes::{Notes, empty_notes, is_over_positions, read_noted, refusal_in};
+use crate::notes::{
+    Form, Notes, empty_notes, may_register_instr, note_instr, read_noted, refusal_in,
+};
 use crate::refusal::StreamRefusal;
 use crate::step::Step;
 use mk_base::{Memory, Source};
 use mk_code::Instr;
 use mk_lines::{LineRefusal, MOST_LINE};
+use mk_regs::RegInstr;
 use std::alloc::Global;
 use std::marker::Model;
 
@@ -76,19 +80,15 @@ impl BundleReader {
         Event::Head(told_head(&mut self.notes.draft, self.alloc))
     }
 
-    /// Reads the first line that is held, where it is that of an instruction that may stand there. Nothing is read
-    /// otherwise.
-    fn quick_instr(&mut self) -> Option<Instr>
-        requires { self.old.waiting ≡ None }
-        ensures some { IfSome result (λ i. Tells (event.Instr i) self.old self.new) }
+    /// Reads the first line that is held, where it is that of an instruction over positions that may stand there. Nothing
+    /// is read otherwise.
+    fn quick_instr(&mut self) -> Option<Step>
+        requires waiting { self.old.waiting ≡ None }
+        requires form { self.old.noted.form ≡ form.Positions }
+        requires stage { self.old.noted.seen.stage ≡ Lower }
+        ensures some { IfSome result (λ s. Stepped s self.old self.new) }
         ensures none { IfNone result (self.new ≡ self.old) }
     {
-        if !is_over_positions(&self.notes) {
-            return None;
-        }
-        if !is_lower(&self.notes.draft) {
-            return None;
-        }
         let (instr, len) = self.input.instr()?;
         if !may_instr(&self.notes.draft, instr) {
             return None;
@@ -97,7 +97,46 @@ impl BundleReader {
         count_instr(&mut self.notes.draft);
         self.input.pass(len + 1);
         self.lines += 1;
-        Some(instr)
+        Some(Step::Told(Event::Instr(instr)))
+    }
+
+    /// Reads the first line that is held, where it is that of an instruction over registers that may stand there. Nothing
+    /// is read otherwise.
+    fn quick_into(&mut self) -> Option<Step>
+        requires waiting { self.old.waiting ≡ None }
+        requires form { self.old.noted.form ≡ form.Positions → ⊥ }
+        requires stage { self.old.noted.seen.stage ≡ Lower }
+        ensures some { IfSome result (λ s. Stepped s self.old self.new) }
+        ensures none { IfNone result (self.new ≡ self.old) }
+    {
+        let ((to, operation), len) = self.input.instr_into()?;
+        if !may_register_instr(&self.notes.draft, operation) {
+            return None;
+        }
+        let _count = self.input.count();
+        let told = note_instr(&mut self.notes, RegInstr::new(to, operation));
+        self.input.pass(len + 1);
+        self.lines += 1;
+        match told {
+            Some(event) => Some(Step::Told(event)),
+            None => Some(Step::Quiet),
+        }
+    }
+
+    /// Reads the first line that is held, where it is that of an instruction that may stand there. Nothing is read
+    /// otherwise.
+    fn quick(&mut self) -> Option<Step>
+        requires { self.old.waiting ≡ None }
+        ensures some { IfSome result (λ s. Stepped s self.old self.new) }
+        ensures none { IfNone result (self.new ≡ self.old) }
+    {
+        if !is_lower(&self.notes.draft) {
+            return None;
+        }
+        match self.notes.form {
+            Form::Positions => self.quick_instr(),
+            Form::Unnumbered | Form::Renaming(_) | Form::Refused(_) => self.quick_into(),
+        }
     }
 
     /// Reads the first line that is held.
@@ -106,8 +145,8 @@ impl BundleReader {
         requires going { IsGoing self.old }
         ensures { Stepped result self.old self.new }
     {
-        match self.quick_instr() {
-            Some(instr) => Step::Told(Event::Instr(instr)),
+        match self.quick() {
+            Some(step) => step,
             None => self.step_any(),
         }
     }

@@ -1,5 +1,6 @@
 ghost use Rattle.std.specs.Prelude.{◌≤◌, Some, IfOk, length};
 ghost use Rattle.mk_rules.specs.declared.TheConstants.{MOST_BLOCKS, MOST_CLAIMS};
+ghost use Rattle.mk_bundle.specs.declared.TheConstants.{TEXT_TOP_ORDER};
 ghost use Rattle.mk_bundle.specs.Pairs.{IsTextOf};
 
 use crate::write::write_bundle;
@@ -29,9 +30,10 @@ impl Sink for Kept {
     }
 }
 
-/// The bundle text of a code and its certificate. The limits are those of the text that a certificate
-/// doesn't keep by itself.
+/// The bundle text of a code over positions and its certificate, which has version 1. The limits are those of the text
+/// that the code and the certificate don't keep by themselves.
 pub fn to_text(alloc: Global, code: &Code, cert: &Cert) -> Result<Bytes, Memory>
+    requires order { code.now.order ≤ TEXT_TOP_ORDER }
     requires blocks { length cert.now.blocks ≤ MOST_BLOCKS }
     requires claims { length cert.now.claims ≤ MOST_CLAIMS }
     ensures { IfOk result (λ bytes. IsTextOf bytes code.now cert.now) }

@@ -6,6 +6,7 @@ ghost use Rattle.mk_base.specs.Outside.{Rose};
 ghost use Rattle.mk_base.specs.Streams.{TakesPrefix};
 ghost use Rattle.mk_base.specs.declared.TheConstants.{TOP_ORDER};
 ghost use Rattle.mk_rules.specs.declared.TheConstants.{MOST_BLOCKS, MOST_CLAIMS};
+ghost use Rattle.mk_bundle.specs.declared.TheConstants.{TEXT_TOP_ORDER};
 ghost use Rattle.mk_rules.specs.Pairs.{IsPair};
 ghost use Rattle.mk_bundle.specs.Pairs.{IsRegisterPair};
 ghost use Rattle.mk_bundle.specs.Passing.{Sends, Breaks, rest_with, AreWhole};
@@ -329,9 +330,10 @@ fn put_lower<O: Sink, T: Spell>(
     put(out, piece, "end\n")
 }
 
-/// Writes the bundle text of a code and its certificate, in pieces. The limits are those of the text that a
-/// certificate doesn't keep by itself. It takes no memory.
+/// Writes the bundle text of a code over positions and its certificate, which has version 1, in pieces. The limits are
+/// those of the text that the code and the certificate don't keep by themselves. It takes no memory.
 pub fn write_bundle<O: Sink>(out: &mut O, code: &Code, cert: &Cert) -> Result<(), Failed>
+    requires order { code.now.order ≤ TEXT_TOP_ORDER }
     requires blocks { length cert.now.blocks ≤ MOST_BLOCKS }
     requires claims { length cert.now.claims ≤ MOST_CLAIMS }
     // The pair has a text, and the sink took just that.
@@ -358,8 +360,8 @@ pub fn write_bundle<O: Sink>(out: &mut O, code: &Code, cert: &Cert) -> Result<()
     write_all(out, held)
 }
 
-/// Writes the bundle text of code over registers and its certificate, which has version 2, in pieces. The limits are
-/// those of the text that a certificate doesn't keep by itself. It takes no memory.
+/// Writes the bundle text of code over registers and its certificate, which has version 2 and so every masking order, in
+/// pieces. The limits are those of the text that a certificate doesn't keep by itself. It takes no memory.
 pub fn write_registers<O: Sink>(out: &mut O, r: &RegCode, cert: &Cert) -> Result<(), Failed>
     requires blocks { length cert.now.blocks ≤ MOST_BLOCKS }
     requires claims { length cert.now.claims ≤ MOST_CLAIMS }

@@ -5,6 +5,7 @@ use Rattle.std.proofs.lemmas.Bool.{cases_lt, lt-ltb}
 use Rattle.std.proofs.lemmas.List.Elements.{All-from_recursion}
 use Rattle.std.proofs.lemmas.List.FromFn.{length-range_with_len, get_or-range_with_len}
 use Rattle.std.proofs.Math.Nat.{mul-le-mul_right}
+use Rattle.mk_base.specs.declared.TheConstants.{TOP_ORDER}
 use Rattle.mk_field.specs.declared.map.AddMap.{AddMap}
 use Rattle.mk_code.specs.declared.instr.Instr.{Instr}
 use Rattle.mk_code.specs.declared.instr.Instr.TheVariants.{Rnd, Const, Copy, Add, Mul, Sq, Map}
@@ -117,7 +118,7 @@ module _ (old new : Draft) (n base : ℕ) (reads bank : List ℕ) (gadget : Gadg
       ∙ map-same (placement (range_with_len 0 base) base) gadget.outs (placement-same base)
 
   -- and it is whole
-  pub alone-whole : 2 ≤ n → n ≤ 9 → AllBelow (base + length gadget.instrs) gadget.outs → length gadget.outs ≡ n → (positions : List ℕ) → positions ≡ bank
+  pub alone-whole : 2 ≤ n → n ≤ TOP_ORDER + 1 → AllBelow (base + length gadget.instrs) gadget.outs → length gadget.outs ≡ n → (positions : List ℕ) → positions ≡ bank
       → IsWholeWith new positions
   alone-whole least most within count positions same =
       let order : new.order ≡ old.order = ap (λ (d : Draft). d.order) emitted.code in
@@ -138,13 +139,13 @@ module _ (old new : Draft) (n base : ℕ) (reads bank : List ℕ) (gadget : Gadg
       }
 
 -- a square of few shares
-square-few : (n : ℕ) → n ≤ 9 → n * n ≤ 81
+square-few : (n : ℕ) → n ≤ TOP_ORDER + 1 → n * n ≤ (TOP_ORDER + 1) * (TOP_ORDER + 1)
 square-few n few = omega (arith, mul-le-mul_right n few, few)
 
 -- their product has few instructions
-pub product-few : (n : ℕ) → n ≤ 9 → length (product_gadget n).instrs ≤ 486
+pub product-few : (n : ℕ) → n ≤ TOP_ORDER + 1 → length (product_gadget n).instrs ≤ 6 * ((TOP_ORDER + 1) * (TOP_ORDER + 1))
 product-few n few = omega (arith, length-product n, twice-pairs n n (omega arith), square-few n few)
 
 -- and so has their refresh
-pub refresh-few : (n : ℕ) → n ≤ 9 → length (refresh_gadget n).instrs ≤ 486
+pub refresh-few : (n : ℕ) → n ≤ TOP_ORDER + 1 → length (refresh_gadget n).instrs ≤ 6 * ((TOP_ORDER + 1) * (TOP_ORDER + 1))
 refresh-few n few = omega (arith, length-refresh n, twice-pairs n n (omega arith), square-few n few)

@@ -12,6 +12,7 @@ front-same : {A : Type 0} (q n a b : ℕ) (s : List ℕ) (f : List ℕ → A) �
     → f (a ∷ s) ≡ f (b ∷ s)
 front-same q n a b s f over left right here =
     over.same (a ∷ s) (b ∷ s) (Elements-cons q n a s left here) (Elements-cons q n b s right here) (at a b s) where
+      -- behind the first element both are the same
       at : (a b : ℕ) (s : List ℕ) (i : ℕ) → i ≢ 0 → slice_index (a ∷ s) i ≡ slice_index (b ∷ s) i
       at a b s zero other = absurd (other refl)
       at a b s (suc i) other = refl
@@ -22,6 +23,7 @@ behind-over q n j a f below over = record {
   same = λ s t left right agree.
       over.same (a ∷ s) (a ∷ t) (Elements-cons q n a s below left) (Elements-cons q n a t below right) (at a j s t agree);
 } where
+  -- with one more in front they agree beside the element behind it
   at : (a j : ℕ) (s t : List ℕ) → ((i : ℕ) → i ≢ j → slice_index s i ≡ slice_index t i)
       → (i : ℕ) → i ≢ suc j → slice_index (a ∷ s) i ≡ slice_index (a ∷ t) i
   at a j s t agree zero other = refl

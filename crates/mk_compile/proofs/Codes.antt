@@ -2,6 +2,7 @@
 use Rattle.std.proofs.Common.{◌≡◌, ℕ, ◌+◌, ◌*◌, ◌≤◌, List, [], ◌∷◌, All, length, map, slice_index_or, sym, ◌∙◌, ap, refl, subst}
 use Rattle.std.specs.List.{flat_map, AllByRecursion}
 use Rattle.std.proofs.lemmas.List.Elements.{All-from_recursion, recursion_from_All}
+use Rattle.mk_base.specs.declared.TheConstants.{TOP_ORDER}
 use Rattle.mk_simplify.proofs.Trees.{AllByRecursion-weaker}
 use Rattle.mk_code.specs.declared.instr.Instr.{Instr}
 use Rattle.mk_code.specs.Draft.{Draft, draft_len, IsWholeWith}
@@ -45,7 +46,7 @@ module _ {N : ℕ} (shape : Shape) (order : shape.order + 1 ≡ N) (blocks : Lis
 
   -- the code is whole
   pub claims-whole : (d : Draft) (outs : List ℕ) → d.order ≡ shape.order → d.secrets ≡ shape.secrets → d.publics ≡ shape.publics
-      → (1 ≤ shape.order) × (shape.order ≤ 8) → Wired shape blocks → ArePlaced shape blocks d.instrs positions → All (IsSharedThere shape blocks) claims
+      → (1 ≤ shape.order) × (shape.order ≤ TOP_ORDER) → Wired shape blocks → ArePlaced shape blocks d.instrs positions → All (IsSharedThere shape blocks) claims
       → length claims ≤ 65536 → outs ≡ flat_map (bank_of shape.secrets positions) claims → length outs ≡ length claims * N → IsWholeWith d outs
   claims-whole d outs same_order same_secrets same_publics range wired so there few positions_are count =
       let shares : d.order + 1 ≡ N = ap (λ (t : ℕ). t + 1) same_order ∙ order in
@@ -60,7 +61,7 @@ module _ {N : ℕ} (shape : Shape) (order : shape.order + 1 ≡ N) (blocks : Lis
       joined-below (draft_len d) (bank_of shape.secrets positions) (IsSharedAt shape.secrets positions) claims
       (λ v here. shared-before d shape.secrets shape.publics positions shares (sym same_secrets) (sym same_publics) before v (bank_of shape.secrets positions v) here refl) all in
       record {
-        order = subst (λ (t : ℕ). (1 ≤ t) × (t ≤ 8)) (sym same_order) range;
+        order = subst (λ (t : ℕ). (1 ≤ t) × (t ≤ TOP_ORDER)) (sym same_order) range;
         outs = All-below (draft_len d) outs (subst (AllBelow (draft_len d)) (sym positions_are) below);
         outputs = (length claims, few, count ∙ ap (λ (n : ℕ). length claims * n) (sym shares));
       }

@@ -1,6 +1,7 @@
 -- What is compiled is made for its program, and small.
 use Rattle.std.proofs.Common.{◌≡◌, ℕ, ◌+◌, ◌≤◌, Bool, List, length, map, sym, ◌∙◌, ap, subst, arith}
 use Rattle.std.proofs.lemmas.List.{length-map}
+use Rattle.mk_base.specs.declared.TheConstants.{TOP_ORDER}
 use Rattle.mk_field.specs.Field.{size}
 use Rattle.mk_ast.specs.declared.tree.Program.{Program}
 use Rattle.mk_ast.specs.Regular.{IsRegular}
@@ -48,7 +49,7 @@ module _ (p : Program) (order : ℕ) (u s : Values) (cert : Claimed) (is : u ≡
         )
 
     -- of few instructions
-    pub instrs-few : 1 ≤ order → order ≤ 8 → blocks_len (order + 1) cert.blocks ≤ 8388608
+    pub instrs-few : 1 ≤ order → order ≤ TOP_ORDER → blocks_len (order + 1) cert.blocks ≤ 8388608
     instrs-few least most =
         omega (
           arith,

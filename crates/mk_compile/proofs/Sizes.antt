@@ -6,6 +6,7 @@ use Rattle.std.proofs.lemmas.List.Sums.{sum_by-append, sum_by-cons}
 use Rattle.std.proofs.lemmas.Option.{same_Some}
 use Rattle.std.proofs.lemmas.Nat.{mul-le}
 use Rattle.std.proofs.Math.Nat.{mul-le-mul_right}
+use Rattle.mk_base.specs.declared.TheConstants.{TOP_ORDER}
 use Rattle.mk_unroll.specs.declared.TheConstants.{MOST_SIZE}
 use Rattle.mk_types.specs.declared.TheConstants.{MOST_WORK, MOST_OPERATIONS}
 use Rattle.mk_field.specs.declared.field.FieldId.{FieldId}
@@ -189,7 +190,7 @@ price-same n shared public (Map k arg) = refl
 price-same n shared public (Mul left right) = refl
 price-same n shared public (Refresh arg) = refl
 
-module _ (n : ℕ) (least : 1 ≤ n) (most : n ≤ 9) where
+module _ (n : ℕ) (least : 1 ≤ n) (most : n ≤ TOP_ORDER + 1) where
   -- how many instructions a refresh has
   abbrev fresh_price : ℕ
   fresh_price = length (refresh_gadget n).instrs
@@ -203,8 +204,8 @@ module _ (n : ℕ) (least : 1 ≤ n) (most : n ≤ 9) where
   mild-few k p few short =
       omega (arith, short, square-least, mul-le 1 n n n least (omega arith), mul-le-mul_right fresh_price few, length-refresh n, twice-pairs n n (omega arith))
 
-  -- a value is at most seven squares of instructions, a lift nine, and a constant one
-  few-instrs : (op : Op) (k : ℕ) → k ≤ 2 → (shared_operands op ≡ [] → k ≡ 0) → price n op + k * fresh_price ≤ weight 1 9 (7 * (n * n)) op
+  -- a value is at most seven squares of instructions, a lift as many as there are shares at most, and a constant one
+  few-instrs : (op : Op) (k : ℕ) → k ≤ 2 → (shared_operands op ≡ [] → k ≡ 0) → price n op + k * fresh_price ≤ weight 1 (TOP_ORDER + 1) (7 * (n * n)) op
   few-instrs (Const value) k few none = omega (arith, ap (λ (j : ℕ). j * fresh_price) (none refl))
   few-instrs (PubAdd left right) k few none = omega (arith, mild-few k 1 few least)
   few-instrs (PubMul left right) k few none = omega (arith, mild-few k 1 few least)
@@ -223,9 +224,9 @@ module _ (n : ℕ) (least : 1 ≤ n) (most : n ≤ 9) where
 
   -- so many instructions have the blocks
   pub instrs-count : (marks : Marks) (values : List Op) → AreAtUses marks values
-      → blocks_len n (blocks_from marks 0 values) ≤ 1 * constants values + 9 * lifts values + 7 * (n * n) * made values
+      → blocks_len n (blocks_from marks 0 values) ≤ 1 * constants values + (TOP_ORDER + 1) * lifts values + 7 * (n * n) * made values
   instrs-count marks values used =
-      blocks-count 1 9 (7 * (n * n)) (price n) fresh_price (price-same n) (λ v. refl) few-instrs marks values used
+      blocks-count 1 (TOP_ORDER + 1) (7 * (n * n)) (price n) fresh_price (price-same n) (λ v. refl) few-instrs marks values used
 
 -- and so many blocks there are
 pub length-count : (marks : Marks) (values : List Op) → AreAtUses marks values
@@ -352,7 +353,7 @@ pub few-blocks : (marks : Marks) (values : List Op) (n : ℕ) → AreFew values 
 few-blocks marks values n few used = omega (arith, length-count marks values used, few.few_constants, few.few_lifts, few.few_made)
 
 -- and have few instructions
-pub few-blocks_len : (marks : Marks) (values : List Op) (n : ℕ) → 1 ≤ n → n ≤ 9 → AreFew values n → AreAtUses marks values
+pub few-blocks_len : (marks : Marks) (values : List Op) (n : ℕ) → 1 ≤ n → n ≤ TOP_ORDER + 1 → AreFew values n → AreAtUses marks values
     → blocks_len n (blocks_from marks 0 values) ≤ 8388608
 few-blocks_len marks values n least most few used =
     omega (arith, instrs-count n least most marks values used, few.few_constants, few.few_lifts, few.few_size)

@@ -1,12 +1,13 @@
 //! Bundle texts: they are written as they were read, and the first wrong line is named.
 ghost use Rattle.std.specs.Prelude.{◌≡◌, ◌≤◌, IfOk, IsTrue, ◌↔◌};
 ghost use Rattle.mk_rules.specs.Pairs.{IsPair};
+ghost use Rattle.mk_bundle.specs.declared.TheConstants.{TEXT_TOP_ORDER};
 ghost use Rattle.mk_bundle.specs.declared.event.Event.TheVariants as event;
 
 use mk_base::{Failed, Items, MemSink, MemSource, Memory};
 use mk_bundle::{
-    BundleReader, BundleRefusal, Event, Head, MOST_BYTES, StreamRefusal, collect_bundle,
-    read_bundle, to_text, write_bundle,
+    BundleReader, BundleRefusal, Event, Head, MOST_BYTES, StreamRefusal, TEXT_TOP_ORDER,
+    collect_bundle, read_bundle, to_text, write_bundle,
 };
 use mk_code::Instr;
 use mk_field::FieldId;
@@ -19,14 +20,19 @@ use std::test::*;
 const KINDS: &str =
     "mask 1\nfield gf256\norder 2\nsecrets 1\npublics 1\nmap 1f3e7cf8f1e3c78f\nblock const 63\nblock padd p0 b0\nblock pmul b0 b1\nblock psq b2\nblock pmap 0 b3\nblock lift b4\nblock add s0 b5\nblock addp b6 p0\nblock scale b7 b0\nblock sq b8\nblock map 0 b9\nblock mul b10 s0\nblock refresh b11\nclaim s0\nclaim b12\ncode\nrnd\nconst 0a\ncopy 3\nadd 0 4\nmul 1 5\nsq 2\nmap 0 9\nout 0 1 2\nout 10 9 8\nend\n";
 
-/// What is read of a text that isn't too long.
+/// What is read of a text that isn't too long, and whose masking order isn't too high for version 1.
 pub(crate) fn read(alloc: Global, text: &str) -> Result<Bundle, BundleRefusal>
-    ensures { IfOk result (λ b. IsPair b.code b.cert) }
+    ensures pair { IfOk result (λ b. IsPair b.code b.cert) }
+    ensures order { IfOk result (λ b. b.code.order ≤ TEXT_TOP_ORDER) }
 {
     if text.len() > MOST_BYTES as usize {
         return Err(BundleRefusal::Memory);
     }
-    read_bundle(alloc, text.as_bytes())
+    let bundle = read_bundle(alloc, text.as_bytes())?;
+    if bundle.code.order() > TEXT_TOP_ORDER {
+        return Err(BundleRefusal::Memory);
+    }
+    Ok(bundle)
 }
 
 #[test]

@@ -26,7 +26,7 @@ fn reported(alloc: Global, text: &str) -> Option<Bytes> {
 fn eight_of_many_places_are_shown(rt: HostRuntime) -> Result<(), Fail> {
     let text = reported(rt.alloc(), MANY).ok_or("the rule accepts it")?;
     let wanted =
-        "s0 input 0 0 10 b3.0,b4.0,b5.0,b6.0,b7.0,b8.0,b9.0,b10.0\ns1 input 0 0 9 b3.1,b4.1,b5.1,b6.1,b7.1,b8.1,b9.1,b10.1\ns2 input 0 0 1 b12.0\nb0 const 1 0 0 -\nb1 addp 2 0 1 b12.0\nb2 sq 2 0 1 b12.0\nb3 mul 9 1 0 -\nb4 mul 9 1 0 -\nb5 mul 9 1 0 -\nb6 mul 9 1 0 -\nb7 mul 9 1 0 -\nb8 mul 9 1 0 -\nb9 mul 9 1 0 -\nb10 mul 9 1 0 -\nb11 mul 9 1 0 -\nb12 mul 9 1 0 -\ntotal 13 95 10\n";
+        "s0 input 0 0 10 b3.0,b4.0,b5.0,b6.0,b7.0,b8.0,b9.0,b10.0\ns1 input 0 0 9 b3.1,b4.1,b5.1,b6.1,b7.1,b8.1,b9.1,b10.1\ns2 input 0 0 1 b12.0\nb0 const 1 0 0 -\nb1 addp 2 0 1 b12.0\nb2 sq 2 0 1 b12.0\nb3 mul 9 1 0 -\nb4 mul 9 1 0 -\nb5 mul 9 1 0 -\nb6 mul 9 1 0 -\nb7 mul 9 1 0 -\nb8 mul 9 1 0 -\nb9 mul 9 1 0 -\nb10 mul 9 1 0 -\nb11 mul 9 1 0 -\nb12 mul 9 1 0 -\ntotal 13 95 10 9\n";
     assert!(rt; text.as_slice() == wanted.as_bytes());
     Ok(())
 }

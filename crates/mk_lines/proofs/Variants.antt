@@ -13,9 +13,9 @@ use Rattle.mk_field.specs.Digits.{hex_byte}
 use Rattle.mk_lines.specs.CertLines.{pair_words, mapped_words, op_line}
 use Rattle.mk_ssa.specs.Widths.{OperandFits, OpFits}
 use Rattle.mk_lines.specs.CodeLines.{instr_line, into_line, InstrFits, IntoFits}
-use Rattle.mk_lines.specs.Parsing.{◌>>=◌, after, behind, or_else, whole, hex_at, hex_of, number_at, number_of, numbers_at, operand_of, pair_of, mapped_of, public_op_of, single_op_of, pair_op_of, op_of, rnd_at, const_or_copy_at, add_at, mul_or_map_at, sq_at, instr_at, instr_of, numbers_of, target_at, into_by, add_into, mul_or_map_into, rnd_into, const_or_copy_into, sq_into, into_of}
+use Rattle.mk_lines.specs.Parsing.{◌>>=◌, after, behind, or_else, whole, hex_at, hex_of, number_at, numbers_at, operand_of, pair_of, mapped_of, public_op_of, single_op_of, pair_op_of, op_of, rnd_at, const_or_copy_at, add_at, mul_or_map_at, sq_at, instr_at, instr_of, target_at, into_by, add_into, mul_or_map_into, rnd_into, const_or_copy_into, sq_into, into_at, into_of}
 use Rattle.mk_lines.proofs.Steps.{bind_some, same_some, behind_found, or_found, or_again, whole_found, after_found, after_again}
-use Rattle.mk_lines.proofs.Numbers.{EndsNumber, number_found, number_again, number_of_found, number_of_again}
+use Rattle.mk_lines.proofs.Numbers.{EndsNumber, number_found, number_again}
 use Rattle.mk_lines.proofs.Spelled.{hex_found, hex_again, hex_of_found, hex_of_again, operand_of_found, operand_of_again, pair_found, pair_again, mapped_found, mapped_again, number_words, numbers_found, numbers_again}
 
 -- what stands in the line of a block behind `block `
@@ -334,16 +334,6 @@ into_line-words to (instr.Mul left right) = ap line (three_numbers (codes "mul "
 into_line-words to (instr.Sq from) = refl
 into_line-words to (instr.Map map from) = ap line (three_numbers (codes "map ") (decimal to) (decimal map) (decimal from))
 
--- bytes that are read as two numbers with nothing behind them are these with a space between, each of 32 bits
-numbers_of_found : (bytes : List ℕ) (x : ℕ × ℕ) → numbers_of bytes ≡ Some x → (bytes ≡ number_words x.0 x.1) × (x.0 < 2 ^ 32) × (x.1 < 2 ^ 32)
-unfolding numbers_of
-numbers_of_found bytes x e =
-    let h = bind_some (numbers_at bytes) (λ (numbers : (ℕ × ℕ) × List ℕ). whole numbers) x e in
-    let w = whole_found h.0 x h.2 in
-    let found = numbers_found bytes h.0 h.1 in
-    let here : bytes ≡ number_words h.0.0.0 h.0.0.1 = found.0 ∙ ap (λ (r : List ℕ). number_words h.0.0.0 h.0.0.1 ++ r) w.1 ∙ append-nil (number_words h.0.0.0 h.0.0.1) in
-    subst (λ (y : ℕ × ℕ). (bytes ≡ number_words y.0 y.1) × (y.0 < 2 ^ 32) × (y.1 < 2 ^ 32)) w.0 (here, found.1, found.2)
-
 -- bytes that are read as a register before a space are these before the rest, and it has 32 bits
 target_found : (bytes : List ℕ) (x : ℕ × List ℕ) → target_at bytes ≡ Some x → (bytes ≡ decimal x.0 ++ codes " " ++ x.1) × (x.0 < 2 ^ 32)
 unfolding target_at
@@ -357,129 +347,139 @@ target_found bytes x e =
     subst (λ (y : ℕ × List ℕ). (bytes ≡ decimal y.0 ++ codes " " ++ y.1) × (y.0 < 2 ^ 32)) is (here, found.1)
 
 -- the register that is written, of 32 bits, and what stands behind it and a space, from which the instruction is read
-by_found : (f : List ℕ → Option Instr) (bytes : List ℕ) (x : ℕ × Instr) → into_by f bytes ≡ Some x → (rest : List ℕ) × (bytes ≡ decimal x.0 ++ codes " " ++ rest) × (x.0 < 2 ^ 32) × (f rest ≡ Some x.1)
+by_found : (f : List ℕ → Option (Instr × List ℕ)) (bytes : List ℕ) (x : (ℕ × Instr) × List ℕ) → into_by f bytes ≡ Some x
+    → (rest : List ℕ) × (bytes ≡ decimal x.0.0 ++ codes " " ++ rest) × (x.0.0 < 2 ^ 32) × (f rest ≡ Some (x.0.1, x.1))
 unfolding into_by
 by_found f bytes x e =
-    let a = bind_some (target_at bytes) (λ (target : ℕ × List ℕ). f target.1 >>= λ i. Some (target.0, i)) x e in
-    let b = bind_some (f a.0.1) (λ (i : Instr). Some (a.0.0, i)) x a.2 in
-    let is : (a.0.0, b.0) ≡ x = same_some (a.0.0, b.0) x b.2 in
+    let a = bind_some (target_at bytes) (λ (target : ℕ × List ℕ). f target.1 >>= λ i. Some ((target.0, i.0), i.1)) x e in
+    let b = bind_some (f a.0.1) (λ (i : Instr × List ℕ). Some ((a.0.0, i.0), i.1)) x a.2 in
+    let is : ((a.0.0, b.0.0), b.0.1) ≡ x = same_some ((a.0.0, b.0.0), b.0.1) x b.2 in
     let found = target_found bytes a.0 a.1 in
-    let parts : (bytes ≡ decimal x.0 ++ codes " " ++ a.0.1) × (x.0 < 2 ^ 32) × (f a.0.1 ≡ Some x.1) =
-    subst (λ (y : ℕ × Instr). (bytes ≡ decimal y.0 ++ codes " " ++ a.0.1) × (y.0 < 2 ^ 32) × (f a.0.1 ≡ Some y.1)) is (found.0, found.1, b.1) in
+    let parts : (bytes ≡ decimal x.0.0 ++ codes " " ++ a.0.1) × (x.0.0 < 2 ^ 32) × (f a.0.1 ≡ Some (x.0.1, x.1)) =
+    subst (λ (y : (ℕ × Instr) × List ℕ). (bytes ≡ decimal y.0.0 ++ codes " " ++ a.0.1) × (y.0.0 < 2 ^ 32) × (f a.0.1 ≡ Some (y.0.1, y.1))) is (found.0, found.1, b.1) in
     (a.0.1, parts.0, parts.1, parts.2)
 
--- these are the words of this instruction that writes this register, and its numbers fit
-abbrev pub IsInto : List ℕ → ℕ × Instr → Type 0
-IsInto words x = (words ≡ into_words x.0 x.1) × IntoFits x.0 x.1
+-- bytes begin with the words of this instruction that writes this register, whose numbers fit, before what is left
+abbrev pub BeginsWithInto : List ℕ → (ℕ × Instr) × List ℕ → Type 0
+BeginsWithInto bytes x = (bytes ≡ into_words x.0.0 x.0.1 ++ x.1) × IntoFits x.0.0 x.0.1
+
+-- words that stand behind others, before what is left
+regrouped : (word to spelled left : List ℕ) → word ++ (to ++ codes " " ++ (spelled ++ left)) ≡ (word ++ (to ++ codes " " ++ spelled)) ++ left
+regrouped word to spelled left = simp (append_assoc) refl
 
 -- a kind's word, the register and the spelling of what is read are the words of the instruction that was made of them
-into_is : (words word rest spelled last : List ℕ) (i : Instr) (x : ℕ × Instr) → words ≡ word ++ rest → rest ≡ decimal x.0 ++ codes " " ++ last → last ≡ spelled
-    → into_words x.0 i ≡ word ++ (decimal x.0 ++ codes " " ++ spelled) → x.0 < 2 ^ 32 → InstrFits i → ◌≡◌ {A = Option Instr} (Some i) (Some x.1) → IsInto words x
-into_is words word rest spelled last i x here target end made small fits e =
-    let all : words ≡ into_words x.0 i =
-    here ∙ ap (λ (r : List ℕ). word ++ r) target ∙ ap (λ (r : List ℕ). word ++ (decimal x.0 ++ codes " " ++ r)) end ∙ sym made in
-    subst (λ (j : Instr). (words ≡ into_words x.0 j) × IntoFits x.0 j) (same_some i x.1 e) (all, (small, fits))
+into_is : (bytes word rest last spelled left : List ℕ) (i : Instr) (x : (ℕ × Instr) × List ℕ) → bytes ≡ word ++ rest → rest ≡ decimal x.0.0 ++ codes " " ++ last → last ≡ spelled ++ left
+    → into_words x.0.0 i ≡ word ++ (decimal x.0.0 ++ codes " " ++ spelled) → x.0.0 < 2 ^ 32 → InstrFits i → ◌≡◌ {A = Option (Instr × List ℕ)} (Some (i, left)) (Some (x.0.1, x.1)) → BeginsWithInto bytes x
+into_is bytes word rest last spelled left i x here target end made small fits e =
+    let all : bytes ≡ into_words x.0.0 i ++ left =
+    here ∙ ap (λ (r : List ℕ). word ++ r) target ∙ ap (λ (r : List ℕ). word ++ (decimal x.0.0 ++ codes " " ++ r)) end
+    ∙ regrouped word (decimal x.0.0) spelled left ∙ ap (λ (w : List ℕ). w ++ left) (sym made) in
+    subst (λ (y : Instr × List ℕ). (bytes ≡ into_words x.0.0 y.0 ++ y.1) × IntoFits x.0.0 y.0) (same_some (i, left) (x.0.1, x.1) e) (all, (small, fits))
 
--- words that are read as an instruction that reads one register are those of that instruction
-into_number_is : (word words rest : List ℕ) (make : ℕ → Instr) (x : ℕ × Instr) → ((to n : ℕ) → into_words to (make n) ≡ word ++ (decimal to ++ codes " " ++ decimal n)) → ((n : ℕ) → n < 2 ^ 32 → InstrFits (make n))
-    → words ≡ word ++ rest → into_by (λ r. number_of r >>= λ n. Some (make n)) rest ≡ Some x → IsInto words x
-into_number_is word words rest make x made fits here e =
-    let a = by_found (λ (r : List ℕ). number_of r >>= λ n. Some (make n)) rest x e in
-    let b = bind_some (number_of a.0) (λ (n : ℕ). Some (make n)) x.1 a.3 in
-    let found = number_of_found a.0 b.0 b.1 in
-    into_is words word rest (decimal b.0) a.0 (make b.0) x here a.1 found.0 (made x.0 b.0) a.2 (fits b.0 found.1) b.2
+-- bytes that are read as an instruction that reads one register begin with the words of that instruction
+into_number_is : (word bytes rest : List ℕ) (make : ℕ → Instr) (x : (ℕ × Instr) × List ℕ) → ((to n : ℕ) → into_words to (make n) ≡ word ++ (decimal to ++ codes " " ++ decimal n))
+    → ((n : ℕ) → n < 2 ^ 32 → InstrFits (make n)) → bytes ≡ word ++ rest → into_by (λ r. number_at r >>= λ n. Some (make n.0, n.1)) rest ≡ Some x → BeginsWithInto bytes x
+into_number_is word bytes rest make x made fits here e =
+    let a = by_found (λ (r : List ℕ). number_at r >>= λ n. Some (make n.0, n.1)) rest x e in
+    let b = bind_some (number_at a.0) (λ (n : ℕ × List ℕ). Some (make n.0, n.1)) (x.0.1, x.1) a.3 in
+    let found = number_found a.0 b.0 b.1 in
+    into_is bytes word rest a.0 (decimal b.0.0) b.0.1 (make b.0.0) x here a.1 found.0 (made x.0.0 b.0.0) a.2 (fits b.0.0 found.1) b.2
 
 -- the same for an instruction of two numbers
-into_numbers_is : (word words rest : List ℕ) (make : ℕ → ℕ → Instr) (x : ℕ × Instr) → ((to m n : ℕ) → into_words to (make m n) ≡ word ++ (decimal to ++ codes " " ++ number_words m n))
-    → ((m n : ℕ) → m < 2 ^ 32 → n < 2 ^ 32 → InstrFits (make m n)) → words ≡ word ++ rest → into_by (λ r. numbers_of r >>= λ n. Some (make n.0 n.1)) rest ≡ Some x → IsInto words x
-into_numbers_is word words rest make x made fits here e =
-    let a = by_found (λ (r : List ℕ). numbers_of r >>= λ n. Some (make n.0 n.1)) rest x e in
-    let b = bind_some (numbers_of a.0) (λ (n : ℕ × ℕ). Some (make n.0 n.1)) x.1 a.3 in
-    let found = numbers_of_found a.0 b.0 b.1 in
-    into_is words word rest (number_words b.0.0 b.0.1) a.0 (make b.0.0 b.0.1) x here a.1 found.0 (made x.0 b.0.0 b.0.1) a.2 (fits b.0.0 b.0.1 found.1 found.2) b.2
+into_numbers_is : (word bytes rest : List ℕ) (make : ℕ → ℕ → Instr) (x : (ℕ × Instr) × List ℕ) → ((to m n : ℕ) → into_words to (make m n) ≡ word ++ (decimal to ++ codes " " ++ number_words m n))
+    → ((m n : ℕ) → m < 2 ^ 32 → n < 2 ^ 32 → InstrFits (make m n)) → bytes ≡ word ++ rest → into_by (λ r. numbers_at r >>= λ p. Some (make p.0.0 p.0.1, p.1)) rest ≡ Some x → BeginsWithInto bytes x
+into_numbers_is word bytes rest make x made fits here e =
+    let a = by_found (λ (r : List ℕ). numbers_at r >>= λ p. Some (make p.0.0 p.0.1, p.1)) rest x e in
+    let b = bind_some (numbers_at a.0) (λ (p : (ℕ × ℕ) × List ℕ). Some (make p.0.0 p.0.1, p.1)) (x.0.1, x.1) a.3 in
+    let found = numbers_found a.0 b.0 b.1 in
+    into_is bytes word rest a.0 (number_words b.0.0.0 b.0.0.1) b.0.1 (make b.0.0.0 b.0.0.1) x here a.1 found.0 (made x.0.0 b.0.0.0 b.0.0.1) a.2 (fits b.0.0.0 b.0.0.1 found.1 found.2) b.2
 
 -- the same for an instruction of an element
-into_constant_is : (words rest : List ℕ) (x : ℕ × Instr) → words ≡ codes "const " ++ rest → into_by (λ r. hex_of r >>= λ value. Some (instr.Const value)) rest ≡ Some x → IsInto words x
-into_constant_is words rest x here e =
-    let a = by_found (λ (r : List ℕ). hex_of r >>= λ value. Some (instr.Const value)) rest x e in
-    let b = bind_some (hex_of a.0) (λ (value : ℕ). Some (instr.Const value)) x.1 a.3 in
-    let found = hex_of_found a.0 b.0 b.1 in
-    into_is words (codes "const ") rest (hex_byte b.0) a.0 (instr.Const b.0) x here a.1 found.0 refl a.2 found.1 b.2
+into_constant_is : (bytes rest : List ℕ) (x : (ℕ × Instr) × List ℕ) → bytes ≡ codes "const " ++ rest → into_by (λ r. hex_at r >>= λ v. Some (instr.Const v.0, v.1)) rest ≡ Some x → BeginsWithInto bytes x
+into_constant_is bytes rest x here e =
+    let a = by_found (λ (r : List ℕ). hex_at r >>= λ v. Some (instr.Const v.0, v.1)) rest x e in
+    let b = bind_some (hex_at a.0) (λ (v : ℕ × List ℕ). Some (instr.Const v.0, v.1)) (x.0.1, x.1) a.3 in
+    let found = hex_found a.0 b.0 b.1 in
+    into_is bytes (codes "const ") rest a.0 (hex_byte b.0.0) b.0.1 (instr.Const b.0.0) x here a.1 found.0 refl a.2 found.1 b.2
 
 -- the same for a random element
-into_random_is : (words rest : List ℕ) (x : ℕ × Instr) → words ≡ codes "rnd " ++ rest → (number_of rest >>= λ to. Some (to, instr.Rnd)) ≡ Some x → IsInto words x
-into_random_is words rest x here e =
-    let a = bind_some (number_of rest) (λ (to : ℕ). Some (to, instr.Rnd)) x e in
-    let found = number_of_found rest a.0 a.1 in
-    subst (IsInto words) (same_some (a.0, instr.Rnd) x a.2) (here ∙ ap (λ (r : List ℕ). codes "rnd " ++ r) found.0, (found.1, tt))
+into_random_is : (bytes rest : List ℕ) (x : (ℕ × Instr) × List ℕ) → bytes ≡ codes "rnd " ++ rest → (number_at rest >>= λ to. Some ((to.0, instr.Rnd), to.1)) ≡ Some x → BeginsWithInto bytes x
+into_random_is bytes rest x here e =
+    let a = bind_some (number_at rest) (λ (to : ℕ × List ℕ). Some ((to.0, instr.Rnd), to.1)) x e in
+    let found = number_found rest a.0 a.1 in
+    let all : bytes ≡ into_words a.0.0 instr.Rnd ++ a.0.1 = here ∙ ap (λ (r : List ℕ). codes "rnd " ++ r) found.0 ∙ sym (append_assoc (codes "rnd ") (decimal a.0.0) a.0.1) in
+    subst (BeginsWithInto bytes) (same_some ((a.0.0, instr.Rnd), a.0.1) x a.2) (all, (found.1, tt))
 
--- where no instruction was read, any words would be those of it
-no_into : (words : List ℕ) (x : ℕ × Instr) → ◌≡◌ {A = Option (ℕ × Instr)} None (Some x) → IsInto words x
-no_into words x e = absurd cc
+-- where no instruction was read, any bytes would begin with it
+no_into : (bytes : List ℕ) (x : (ℕ × Instr) × List ℕ) → ◌≡◌ {A = Option ((ℕ × Instr) × List ℕ)} None (Some x) → BeginsWithInto bytes x
+no_into bytes x e = absurd cc
 
--- words that are read as a sum are those of that sum
-add_into_found : (words : List ℕ) (x : ℕ × Instr) → add_into words ≡ Some x → IsInto words x
+-- bytes that are read as a sum begin with its words
+add_into_found : (bytes : List ℕ) (x : (ℕ × Instr) × List ℕ) → add_into bytes ≡ Some x → BeginsWithInto bytes x
 unfolding add_into
-add_into_found words x e = elim (behind_found (codes "add ") words _ _ x e) [
-  | inl h ↦ into_numbers_is (codes "add ") words h.0 instr.Add x (λ t m n. refl) (λ m n f g. (f, g)) h.1 h.2
-  | inr e ↦ no_into words x e
+add_into_found bytes x e = elim (behind_found (codes "add ") bytes _ _ x e) [
+  | inl h ↦ into_numbers_is (codes "add ") bytes h.0 instr.Add x (λ t m n. refl) (λ m n f g. (f, g)) h.1 h.2
+  | inr e ↦ no_into bytes x e
 ]
 
--- words that are read as a product or a map are those of it
-mul_or_map_into_found : (words : List ℕ) (x : ℕ × Instr) → mul_or_map_into words ≡ Some x → IsInto words x
+-- bytes that are read as a product or a map begin with its words
+mul_or_map_into_found : (bytes : List ℕ) (x : (ℕ × Instr) × List ℕ) → mul_or_map_into bytes ≡ Some x → BeginsWithInto bytes x
 unfolding mul_or_map_into
-mul_or_map_into_found words x e = elim (behind_found (codes "mul ") words _ _ x e) [
-  | inl h ↦ into_numbers_is (codes "mul ") words h.0 instr.Mul x (λ t m n. refl) (λ m n f g. (f, g)) h.1 h.2
-  | inr e ↦ elim (behind_found (codes "map ") words _ _ x e) [
-    | inl h ↦ into_numbers_is (codes "map ") words h.0 instr.Map x (λ t m n. refl) (λ m n f g. (f, g)) h.1 h.2
-    | inr e ↦ no_into words x e
+mul_or_map_into_found bytes x e = elim (behind_found (codes "mul ") bytes _ _ x e) [
+  | inl h ↦ into_numbers_is (codes "mul ") bytes h.0 instr.Mul x (λ t m n. refl) (λ m n f g. (f, g)) h.1 h.2
+  | inr e ↦ elim (behind_found (codes "map ") bytes _ _ x e) [
+    | inl h ↦ into_numbers_is (codes "map ") bytes h.0 instr.Map x (λ t m n. refl) (λ m n f g. (f, g)) h.1 h.2
+    | inr e ↦ no_into bytes x e
   ]
 ]
 
--- words that are read as a random element are those of it
-rnd_into_found : (words : List ℕ) (x : ℕ × Instr) → rnd_into words ≡ Some x → IsInto words x
+-- bytes that are read as a random element begin with its words
+rnd_into_found : (bytes : List ℕ) (x : (ℕ × Instr) × List ℕ) → rnd_into bytes ≡ Some x → BeginsWithInto bytes x
 unfolding rnd_into
-rnd_into_found words x e = elim (behind_found (codes "rnd ") words _ _ x e) [ inl h ↦ into_random_is words h.0 x h.1 h.2 | inr e ↦ no_into words x e ]
+rnd_into_found bytes x e = elim (behind_found (codes "rnd ") bytes _ _ x e) [ inl h ↦ into_random_is bytes h.0 x h.1 h.2 | inr e ↦ no_into bytes x e ]
 
--- words that are read as a constant or a copy are those of it
-const_or_copy_into_found : (words : List ℕ) (x : ℕ × Instr) → const_or_copy_into words ≡ Some x → IsInto words x
+-- bytes that are read as a constant or a copy begin with its words
+const_or_copy_into_found : (bytes : List ℕ) (x : (ℕ × Instr) × List ℕ) → const_or_copy_into bytes ≡ Some x → BeginsWithInto bytes x
 unfolding const_or_copy_into
-const_or_copy_into_found words x e = elim (behind_found (codes "const ") words _ _ x e) [
-  | inl h ↦ into_constant_is words h.0 x h.1 h.2
-  | inr e ↦ elim (behind_found (codes "copy ") words _ _ x e) [
-    | inl h ↦ into_number_is (codes "copy ") words h.0 instr.Copy x (λ t n. refl) (λ n f. f) h.1 h.2
-    | inr e ↦ no_into words x e
+const_or_copy_into_found bytes x e = elim (behind_found (codes "const ") bytes _ _ x e) [
+  | inl h ↦ into_constant_is bytes h.0 x h.1 h.2
+  | inr e ↦ elim (behind_found (codes "copy ") bytes _ _ x e) [
+    | inl h ↦ into_number_is (codes "copy ") bytes h.0 instr.Copy x (λ t n. refl) (λ n f. f) h.1 h.2
+    | inr e ↦ no_into bytes x e
   ]
 ]
 
--- words that are read as a square are those of that square
-sq_into_found : (words : List ℕ) (x : ℕ × Instr) → sq_into words ≡ Some x → IsInto words x
+-- bytes that are read as a square begin with its words
+sq_into_found : (bytes : List ℕ) (x : (ℕ × Instr) × List ℕ) → sq_into bytes ≡ Some x → BeginsWithInto bytes x
 unfolding sq_into
-sq_into_found words x e = elim (behind_found (codes "sq ") words _ _ x e) [
-  | inl h ↦ into_number_is (codes "sq ") words h.0 instr.Sq x (λ t n. refl) (λ n f. f) h.1 h.2
-  | inr e ↦ no_into words x e
+sq_into_found bytes x e = elim (behind_found (codes "sq ") bytes _ _ x e) [
+  | inl h ↦ into_number_is (codes "sq ") bytes h.0 instr.Sq x (λ t n. refl) (λ n f. f) h.1 h.2
+  | inr e ↦ no_into bytes x e
+]
+
+-- bytes that are read as an instruction that writes a register begin with the words of both, and the numbers fit
+pub into_at_found : (bytes : List ℕ) (x : (ℕ × Instr) × List ℕ) → into_at bytes ≡ Some x → BeginsWithInto bytes x
+unfolding into_at
+into_at_found bytes x e = elim (or_found (add_into bytes) _ x e) [
+  | inl h ↦ add_into_found bytes x h
+  | inr e ↦ elim (or_found (mul_or_map_into bytes) _ x e) [
+    | inl h ↦ mul_or_map_into_found bytes x h
+    | inr e ↦ elim (or_found (rnd_into bytes) _ x e) [
+      | inl h ↦ rnd_into_found bytes x h
+      | inr e ↦ elim (or_found (const_or_copy_into bytes) _ x e) [ inl h ↦ const_or_copy_into_found bytes x h | inr h ↦ sq_into_found bytes x h ]
+    ]
+  ]
 ]
 
 -- words that are read as an instruction that writes a register are those of both, and the numbers fit
 pub into_found : (words : List ℕ) (x : ℕ × Instr) → into_of words ≡ Some x → (words ≡ into_words x.0 x.1) × IntoFits x.0 x.1
 unfolding into_of
-into_found words x e = elim (or_found (add_into words) _ x e) [
-  | inl h ↦ add_into_found words x h
-  | inr e ↦ elim (or_found (mul_or_map_into words) _ x e) [
-    | inl h ↦ mul_or_map_into_found words x h
-    | inr e ↦ elim (or_found (rnd_into words) _ x e) [
-      | inl h ↦ rnd_into_found words x h
-      | inr e ↦ elim (or_found (const_or_copy_into words) _ x e) [ inl h ↦ const_or_copy_into_found words x h | inr h ↦ sq_into_found words x h ]
-    ]
-  ]
-]
-
--- two numbers with a space between and nothing behind are read as those two
-numbers_of_again : (left right : ℕ) → left < 2 ^ 32 → right < 2 ^ 32 → numbers_of (number_words left right) ≡ Some (left, right)
-unfolding numbers_of whole
-numbers_of_again left right low high =
-    let h : numbers_at (number_words left right) ≡ Some ((left, right), []) = ap numbers_at (sym (append-nil (number_words left right))) ∙ numbers_again left right [] low high tt in
-    rw h refl
+into_found words x e =
+    let a = bind_some (into_at words) (λ (i : (ℕ × Instr) × List ℕ). whole i) x e in
+    let w = whole_found a.0 x a.2 in
+    let found = into_at_found words a.0 a.1 in
+    let here : words ≡ into_words a.0.0.0 a.0.0.1 = found.0 ∙ ap (λ (r : List ℕ). into_words a.0.0.0 a.0.0.1 ++ r) w.1 ∙ append-nil (into_words a.0.0.0 a.0.0.1) in
+    subst (λ (y : ℕ × Instr). (words ≡ into_words y.0 y.1) × IntoFits y.0 y.1) w.0 (here, found.1)
 
 -- a register and a space before more words are read as it and those
 target_again : (to : ℕ) (rest : List ℕ) → to < 2 ^ 32 → target_at (decimal to ++ codes " " ++ rest) ≡ Some (to, rest)
@@ -487,28 +487,43 @@ unfolding target_at
 target_again to rest small = rw (append_assoc (decimal to) (codes " ") rest, number_again to (codes " " ++ rest) small refl, after_again (codes " ") rest) refl
 
 -- the register that is written and the instruction are read, where the instruction is from its words
-by_again : (f : List ℕ → Option Instr) (to : ℕ) (i : Instr) (rest : List ℕ) → to < 2 ^ 32 → f rest ≡ Some i → into_by f (decimal to ++ codes " " ++ rest) ≡ Some (to, i)
+by_again : (f : List ℕ → Option (Instr × List ℕ)) (to : ℕ) (i : Instr) (spelled rest : List ℕ) → to < 2 ^ 32 → f (spelled ++ rest) ≡ Some (i, rest)
+    → into_by f ((decimal to ++ codes " " ++ spelled) ++ rest) ≡ Some ((to, i), rest)
 unfolding into_by
-by_again f to i rest small read = rw (target_again to rest small, read) refl
+by_again f to i spelled rest small read = rw (append_assoc (decimal to ++ codes " ") spelled rest, target_again to (spelled ++ rest) small, read) refl
+
+-- the same of an instruction that reads one register
+by_number_again : (make : ℕ → Instr) (to n : ℕ) (rest : List ℕ) → to < 2 ^ 32 → n < 2 ^ 32 → EndsNumber rest
+    → into_by (λ r. number_at r >>= λ n. Some (make n.0, n.1)) (number_words to n ++ rest) ≡ Some ((to, make n), rest)
+by_number_again make to n rest small low ends =
+    by_again (λ (r : List ℕ). number_at r >>= λ n. Some (make n.0, n.1)) to (make n) (decimal n) rest small (ap (λ (o : Option (ℕ × List ℕ)). o >>= λ n. Some (make n.0, n.1)) (number_again n rest low ends))
+
+-- the same of an instruction of two numbers
+by_numbers_again : (make : ℕ → ℕ → Instr) (to m n : ℕ) (rest : List ℕ) → to < 2 ^ 32 → m < 2 ^ 32 → n < 2 ^ 32 → EndsNumber rest
+    → into_by (λ r. numbers_at r >>= λ p. Some (make p.0.0 p.0.1, p.1)) ((decimal to ++ codes " " ++ number_words m n) ++ rest) ≡ Some ((to, make m n), rest)
+by_numbers_again make to m n rest small low high ends =
+    by_again (λ (r : List ℕ). numbers_at r >>= λ p. Some (make p.0.0 p.0.1, p.1)) to (make m n) (number_words m n) rest small
+    (ap (λ (o : Option ((ℕ × ℕ) × List ℕ)). o >>= λ p. Some (make p.0.0 p.0.1, p.1)) (numbers_again m n rest low high ends))
+
+-- the words of an instruction that writes a register, whose numbers fit, are read as both, where what stands behind doesn't go on with a number
+pub into_at_again : (to : ℕ) (i : Instr) (rest : List ℕ) → IntoFits to i → EndsNumber rest → into_at (into_words to i ++ rest) ≡ Some ((to, i), rest)
+unfolding into_at add_into mul_or_map_into rnd_into const_or_copy_into sq_into after
+into_at_again to instr.Rnd rest fits ends = rw (number_again to rest fits.0 ends) refl
+into_at_again to (instr.Const value) rest fits ends =
+    or_again _ _ ((to, instr.Const value), rest)
+    (by_again _ to (instr.Const value) (hex_byte value) rest fits.0 (ap (λ (o : Option (ℕ × List ℕ)). o >>= λ v. Some (instr.Const v.0, v.1)) (hex_again value rest fits.1)))
+into_at_again to (instr.Copy from) rest fits ends = or_again _ _ ((to, instr.Copy from), rest) (by_number_again instr.Copy to from rest fits.0 fits.1 ends)
+into_at_again to (instr.Add left right) rest fits ends = or_again _ _ ((to, instr.Add left right), rest) (by_numbers_again instr.Add to left right rest fits.0 fits.1.0 fits.1.1 ends)
+into_at_again to (instr.Mul left right) rest fits ends = or_again _ _ ((to, instr.Mul left right), rest) (by_numbers_again instr.Mul to left right rest fits.0 fits.1.0 fits.1.1 ends)
+into_at_again to (instr.Sq from) rest fits ends = by_number_again instr.Sq to from rest fits.0 fits.1 ends
+into_at_again to (instr.Map map from) rest fits ends = or_again _ _ ((to, instr.Map map from), rest) (by_numbers_again instr.Map to map from rest fits.0 fits.1.0 fits.1.1 ends)
 
 -- the words of an instruction that writes a register, whose numbers fit, are read as both
 pub into_again : (to : ℕ) (i : Instr) → IntoFits to i → into_of (into_words to i) ≡ Some (to, i)
-unfolding into_of add_into mul_or_map_into rnd_into const_or_copy_into sq_into after
-into_again to instr.Rnd fits = rw (number_of_again to fits.0) refl
-into_again to (instr.Const value) fits =
-    or_again _ _ (to, instr.Const value) (by_again _ to (instr.Const value) (hex_byte value) fits.0 (ap (λ (o : Option ℕ). o >>= λ value. Some (instr.Const value)) (hex_of_again value fits.1)))
-into_again to (instr.Copy from) fits =
-    or_again _ _ (to, instr.Copy from) (by_again _ to (instr.Copy from) (decimal from) fits.0 (ap (λ (o : Option ℕ). o >>= λ from. Some (instr.Copy from)) (number_of_again from fits.1)))
-into_again to (instr.Add left right) fits =
-    or_again _ _ (to, instr.Add left right)
-    (by_again _ to (instr.Add left right) (number_words left right) fits.0 (ap (λ (o : Option (ℕ × ℕ)). o >>= λ n. Some (instr.Add n.0 n.1)) (numbers_of_again left right fits.1.0 fits.1.1)))
-into_again to (instr.Mul left right) fits =
-    or_again _ _ (to, instr.Mul left right)
-    (by_again _ to (instr.Mul left right) (number_words left right) fits.0 (ap (λ (o : Option (ℕ × ℕ)). o >>= λ n. Some (instr.Mul n.0 n.1)) (numbers_of_again left right fits.1.0 fits.1.1)))
-into_again to (instr.Sq from) fits = by_again _ to (instr.Sq from) (decimal from) fits.0 (ap (λ (o : Option ℕ). o >>= λ from. Some (instr.Sq from)) (number_of_again from fits.1))
-into_again to (instr.Map map from) fits =
-    or_again _ _ (to, instr.Map map from)
-    (by_again _ to (instr.Map map from) (number_words map from) fits.0 (ap (λ (o : Option (ℕ × ℕ)). o >>= λ n. Some (instr.Map n.0 n.1)) (numbers_of_again map from fits.1.0 fits.1.1)))
+unfolding into_of whole
+into_again to i fits =
+    let h : into_at (into_words to i) ≡ Some ((to, i), []) = ap into_at (sym (append-nil (into_words to i))) ∙ into_at_again to i [] fits tt in
+    rw h refl
 
 -- ---- the first letter
 
@@ -554,37 +569,37 @@ letter_other b bs a m r c s =
     rw (ne_eqb 97 b (λ e. a (sym e)), ne_eqb 109 b (λ e. m (sym e)), ne_eqb 114 b (λ e. r (sym e)), ne_eqb 99 b (λ e. c (sym e)), ne_eqb 115 b (λ e. s (sym e))) refl
 
 -- no byte begins an instruction that writes a register
-pub into_none : (words : List ℕ) → words ≡ [] → into_of words ≡ None
-unfolding into_of add_into mul_or_map_into rnd_into const_or_copy_into sq_into after
-into_none words none = rw none refl
+pub into_none : (bytes : List ℕ) → bytes ≡ [] → into_at bytes ≡ None
+unfolding into_at add_into mul_or_map_into rnd_into const_or_copy_into sq_into after
+into_none bytes none = rw none refl
 
 -- an `a` begins a sum that writes one
-pub into_a : (bs : List ℕ) → into_of (97 ∷ bs) ≡ add_into (97 ∷ bs)
-unfolding into_of add_into mul_or_map_into rnd_into const_or_copy_into sq_into after
+pub into_a : (bs : List ℕ) → into_at (97 ∷ bs) ≡ add_into (97 ∷ bs)
+unfolding into_at add_into mul_or_map_into rnd_into const_or_copy_into sq_into after
 into_a bs = or_none (add_into (97 ∷ bs))
 
 -- an `m` begins a product or a map that writes one
-pub into_m : (bs : List ℕ) → into_of (109 ∷ bs) ≡ mul_or_map_into (109 ∷ bs)
-unfolding into_of add_into mul_or_map_into rnd_into const_or_copy_into sq_into after
+pub into_m : (bs : List ℕ) → into_at (109 ∷ bs) ≡ mul_or_map_into (109 ∷ bs)
+unfolding into_at add_into mul_or_map_into rnd_into const_or_copy_into sq_into after
 into_m bs = or_none (mul_or_map_into (109 ∷ bs))
 
 -- an `r` begins a random element that is written into one
-pub into_r : (bs : List ℕ) → into_of (114 ∷ bs) ≡ rnd_into (114 ∷ bs)
-unfolding into_of add_into mul_or_map_into rnd_into const_or_copy_into sq_into after
+pub into_r : (bs : List ℕ) → into_at (114 ∷ bs) ≡ rnd_into (114 ∷ bs)
+unfolding into_at add_into mul_or_map_into rnd_into const_or_copy_into sq_into after
 into_r bs = or_none (rnd_into (114 ∷ bs))
 
 -- a `c` begins a constant or a copy that writes one
-pub into_c : (bs : List ℕ) → into_of (99 ∷ bs) ≡ const_or_copy_into (99 ∷ bs)
-unfolding into_of add_into mul_or_map_into rnd_into const_or_copy_into sq_into after
+pub into_c : (bs : List ℕ) → into_at (99 ∷ bs) ≡ const_or_copy_into (99 ∷ bs)
+unfolding into_at add_into mul_or_map_into rnd_into const_or_copy_into sq_into after
 into_c bs = or_none (const_or_copy_into (99 ∷ bs))
 
 -- an `s` begins a square that writes one
-pub into_s : (bs : List ℕ) → into_of (115 ∷ bs) ≡ sq_into (115 ∷ bs)
-unfolding into_of add_into mul_or_map_into rnd_into const_or_copy_into after
+pub into_s : (bs : List ℕ) → into_at (115 ∷ bs) ≡ sq_into (115 ∷ bs)
+unfolding into_at add_into mul_or_map_into rnd_into const_or_copy_into after
 into_s bs = refl
 
 -- any other letter begins none
-pub into_other : (b : ℕ) (bs : List ℕ) → b ≢ 97 → b ≢ 109 → b ≢ 114 → b ≢ 99 → b ≢ 115 → into_of (b ∷ bs) ≡ None
-unfolding into_of add_into mul_or_map_into rnd_into const_or_copy_into sq_into after
+pub into_other : (b : ℕ) (bs : List ℕ) → b ≢ 97 → b ≢ 109 → b ≢ 114 → b ≢ 99 → b ≢ 115 → into_at (b ∷ bs) ≡ None
+unfolding into_at add_into mul_or_map_into rnd_into const_or_copy_into sq_into after
 into_other b bs a m r c s =
     rw (ne_eqb 97 b (λ e. a (sym e)), ne_eqb 109 b (λ e. m (sym e)), ne_eqb 114 b (λ e. r (sym e)), ne_eqb 99 b (λ e. c (sym e)), ne_eqb 115 b (λ e. s (sym e))) refl

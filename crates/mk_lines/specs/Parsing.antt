@@ -223,12 +223,6 @@ instr_of words = do
   i ← instr_at words
   whole i
 
--- two numbers, a space between them, and nothing behind them
-unfoldable pub numbers_of : List ℕ → Option (ℕ × ℕ)
-numbers_of bytes = do
-  numbers ← numbers_at bytes
-  whole numbers
-
 -- the register that an instruction writes, and what stands behind it and a space
 unfoldable pub target_at : List ℕ → Option (ℕ × List ℕ)
 target_at bytes = do
@@ -236,40 +230,46 @@ target_at bytes = do
   rest ← after (codes " ") to.1
   Some (to.0, rest)
 
--- the register that an instruction writes, and the instruction, which is read from what stands behind it
-unfoldable pub into_by : (List ℕ → Option Instr) → List ℕ → Option (ℕ × Instr)
+-- the register that an instruction writes, and the instruction, which is read at the front of what stands behind it
+unfoldable pub into_by : (List ℕ → Option (Instr × List ℕ)) → List ℕ → Option ((ℕ × Instr) × List ℕ)
 into_by f bytes = do
   target ← target_at bytes
   i ← f target.1
-  Some (target.0, i)
+  Some ((target.0, i.0), i.1)
 
--- a sum that writes a register
-unfoldable pub add_into : List ℕ → Option (ℕ × Instr)
-add_into words = behind (after (codes "add ") words) (into_by (λ rest. numbers_of rest >>= λ n. Some (instr.Add n.0 n.1))) None
+-- a sum that writes a register, at the front
+unfoldable pub add_into : List ℕ → Option ((ℕ × Instr) × List ℕ)
+add_into bytes = behind (after (codes "add ") bytes) (into_by (λ rest. numbers_at rest >>= λ p. Some (instr.Add p.0.0 p.0.1, p.1))) None
 
--- a product or a map that writes a register
-unfoldable pub mul_or_map_into : List ℕ → Option (ℕ × Instr)
-mul_or_map_into words =
-    behind (after (codes "mul ") words) (into_by (λ rest. numbers_of rest >>= λ n. Some (instr.Mul n.0 n.1))) (
-    behind (after (codes "map ") words) (into_by (λ rest. numbers_of rest >>= λ n. Some (instr.Map n.0 n.1))) None)
+-- a product or a map that writes a register, at the front
+unfoldable pub mul_or_map_into : List ℕ → Option ((ℕ × Instr) × List ℕ)
+mul_or_map_into bytes =
+    behind (after (codes "mul ") bytes) (into_by (λ rest. numbers_at rest >>= λ p. Some (instr.Mul p.0.0 p.0.1, p.1))) (
+    behind (after (codes "map ") bytes) (into_by (λ rest. numbers_at rest >>= λ p. Some (instr.Map p.0.0 p.0.1, p.1))) None)
 
--- a random element that is written into a register
-unfoldable pub rnd_into : List ℕ → Option (ℕ × Instr)
-rnd_into words = behind (after (codes "rnd ") words) (λ rest. number_of rest >>= λ to. Some (to, instr.Rnd)) None
+-- a random element that is written into a register, at the front
+unfoldable pub rnd_into : List ℕ → Option ((ℕ × Instr) × List ℕ)
+rnd_into bytes = behind (after (codes "rnd ") bytes) (λ rest. number_at rest >>= λ to. Some ((to.0, instr.Rnd), to.1)) None
 
--- a constant or a copy that writes a register
-unfoldable pub const_or_copy_into : List ℕ → Option (ℕ × Instr)
-const_or_copy_into words =
-    behind (after (codes "const ") words) (into_by (λ rest. hex_of rest >>= λ value. Some (instr.Const value))) (
-    behind (after (codes "copy ") words) (into_by (λ rest. number_of rest >>= λ from. Some (instr.Copy from))) None)
+-- a constant or a copy that writes a register, at the front
+unfoldable pub const_or_copy_into : List ℕ → Option ((ℕ × Instr) × List ℕ)
+const_or_copy_into bytes =
+    behind (after (codes "const ") bytes) (into_by (λ rest. hex_at rest >>= λ v. Some (instr.Const v.0, v.1))) (
+    behind (after (codes "copy ") bytes) (into_by (λ rest. number_at rest >>= λ n. Some (instr.Copy n.0, n.1))) None)
 
--- a square that writes a register
-unfoldable pub sq_into : List ℕ → Option (ℕ × Instr)
-sq_into words = behind (after (codes "sq ") words) (into_by (λ rest. number_of rest >>= λ from. Some (instr.Sq from))) None
+-- a square that writes a register, at the front
+unfoldable pub sq_into : List ℕ → Option ((ℕ × Instr) × List ℕ)
+sq_into bytes = behind (after (codes "sq ") bytes) (into_by (λ rest. number_at rest >>= λ n. Some (instr.Sq n.0, n.1))) None
+
+-- an instruction that writes a register, at the front, which all digits there belong to
+unfoldable pub into_at : List ℕ → Option ((ℕ × Instr) × List ℕ)
+into_at bytes = or_else (add_into bytes) (or_else (mul_or_map_into bytes) (or_else (rnd_into bytes) (or_else (const_or_copy_into bytes) (sq_into bytes))))
 
 -- an instruction that writes a register: its line
 unfoldable pub into_of : List ℕ → Option (ℕ × Instr)
-into_of words = or_else (add_into words) (or_else (mul_or_map_into words) (or_else (rnd_into words) (or_else (const_or_copy_into words) (sq_into words))))
+into_of words = do
+  i ← into_at words
+  whole i
 
 -- so many positions below `len`, a space before each, and nothing behind them
 unfoldable pub positions_of : ℕ → ℕ → List ℕ → Option (List ℕ)

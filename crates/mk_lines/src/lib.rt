@@ -28,8 +28,8 @@ mod words;
 pub use cutting::cut;
 pub use lines::{field_line, spell_claim, spell_instr, spell_into, spell_map, spell_op, spell_out};
 pub use parse::{
-    after, field_of, instr_at, instr_of, into_of, map_of, number_at, number_of, op_of, operand_of,
-    positions_of,
+    after, field_of, instr_at, instr_of, into_at, into_of, map_of, number_at, number_of, op_of,
+    operand_of, positions_of,
 };
 pub use refusal::LineRefusal;
 pub use words::{Line, MOST_LINE, push_number};
@@ -78,5 +78,6 @@ mod tests {
         );
         assert_eq!(rt; into_of(b"rnd 4294967296"), None);
         assert_eq!(rt; into_of(b"sq 3 7 10"), None);
+        assert!(rt; into_at(b"sq 3 7 10").is_some());
     }
 }

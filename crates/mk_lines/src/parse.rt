@@ -2,7 +2,7 @@
 
 ghost use Rattle.std.specs.Prelude.{◌≡◌, ◌≤◌, IfSome, take_while};
 ghost use Rattle.std.specs.Char.{is_ascii_digit};
-ghost use Rattle.mk_lines.specs.Parsing.{Tells, Gives, field_of, positions_of, after, leads, narrowed, digits_from, number_at, number_of, lower_hex_value, hex_at, hex_of, images_at, map_of, operand_by, operand_at, operand_of, pair_of, mapped_of, numbers_at, public_op_of, single_op_of, pair_op_of, op_of, add_at, mul_or_map_at, rnd_at, const_or_copy_at, sq_at, instr_at, instr_of, numbers_of, target_at, add_into, mul_or_map_into, rnd_into, const_or_copy_into, sq_into, into_of};
+ghost use Rattle.mk_lines.specs.Parsing.{Tells, Gives, field_of, positions_of, after, leads, narrowed, digits_from, number_at, number_of, lower_hex_value, hex_at, hex_of, images_at, map_of, operand_by, operand_at, operand_of, pair_of, mapped_of, numbers_at, public_op_of, single_op_of, pair_op_of, op_of, add_at, mul_or_map_at, rnd_at, const_or_copy_at, sq_at, instr_at, instr_of, target_at, add_into, mul_or_map_into, rnd_into, const_or_copy_into, sq_into, into_at, into_of};
 
 use crate::refusal::LineRefusal;
 use mk_base::{Items, hex_value};
@@ -419,18 +419,6 @@ pub fn instr_of(words: &[u8]) -> Option<Instr>
     Some(instr)
 }
 
-/// Two numbers, a space between them, and nothing behind them.
-#[tactic(auto, unfolding(crate::specs::Parsing::numbers_of, crate::specs::Parsing::whole))]
-fn numbers_of(bytes: &[u8]) -> Option<(u32, u32)>
-    ensures { result ≡ numbers_of bytes.now }
-{
-    let (numbers, rest) = numbers_at(bytes)?;
-    if !rest.is_empty() {
-        return None;
-    }
-    Some(numbers)
-}
-
 /// The register that an instruction writes, and what stands behind it and a space.
 #[tactic(auto, unfolding(crate::specs::Parsing::target_at))]
 fn target_at(bytes: &[u8]) -> Option<(u32, &[u8])>
@@ -441,94 +429,107 @@ fn target_at(bytes: &[u8]) -> Option<(u32, &[u8])>
     Some((to, rest))
 }
 
-/// A sum that writes a register.
+/// A sum that writes a register, at the front, and the bytes behind it.
 #[tactic(auto, unfolding(crate::specs::Parsing::add_into, crate::specs::Parsing::into_by))]
-fn add_into(words: &[u8]) -> Option<(u32, Instr)>
-    ensures { result ≡ add_into words.now }
+fn add_into(bytes: &[u8]) -> Option<((u32, Instr), &[u8])>
+    ensures { Tells (λ x. (x.0, x.1.now)) result (add_into bytes.now) }
 {
-    let rest = after(b"add ", words)?;
+    let rest = after(b"add ", bytes)?;
     let (to, rest) = target_at(rest)?;
-    let (left, right) = numbers_of(rest)?;
-    Some((to, Instr::Add { left, right }))
+    let ((left, right), rest) = numbers_at(rest)?;
+    Some(((to, Instr::Add { left, right }), rest))
 }
 
-/// A product or a map that writes a register.
+/// A product or a map that writes a register, at the front, and the bytes behind it.
 #[tactic(auto, unfolding(crate::specs::Parsing::mul_or_map_into, crate::specs::Parsing::into_by))]
-fn mul_or_map_into(words: &[u8]) -> Option<(u32, Instr)>
-    ensures { result ≡ mul_or_map_into words.now }
+fn mul_or_map_into(bytes: &[u8]) -> Option<((u32, Instr), &[u8])>
+    ensures { Tells (λ x. (x.0, x.1.now)) result (mul_or_map_into bytes.now) }
 {
-    if let Some(rest) = after(b"mul ", words) {
+    if let Some(rest) = after(b"mul ", bytes) {
         let (to, rest) = target_at(rest)?;
-        let (left, right) = numbers_of(rest)?;
-        return Some((to, Instr::Mul { left, right }));
+        let ((left, right), rest) = numbers_at(rest)?;
+        return Some(((to, Instr::Mul { left, right }), rest));
     }
-    let rest = after(b"map ", words)?;
+    let rest = after(b"map ", bytes)?;
     let (to, rest) = target_at(rest)?;
-    let (map, from) = numbers_of(rest)?;
-    Some((to, Instr::Map { map, from }))
+    let ((map, from), rest) = numbers_at(rest)?;
+    Some(((to, Instr::Map { map, from }), rest))
 }
 
-/// A random element that is written into a register.
+/// A random element that is written into a register, at the front, and the bytes behind it.
 #[tactic(auto, unfolding(crate::specs::Parsing::rnd_into))]
-fn rnd_into(words: &[u8]) -> Option<(u32, Instr)>
-    ensures { result ≡ rnd_into words.now }
+fn rnd_into(bytes: &[u8]) -> Option<((u32, Instr), &[u8])>
+    ensures { Tells (λ x. (x.0, x.1.now)) result (rnd_into bytes.now) }
 {
-    let rest = after(b"rnd ", words)?;
-    let to = number_of(rest)?;
-    Some((to, Instr::Rnd))
+    let rest = after(b"rnd ", bytes)?;
+    let (to, rest) = number_at(rest)?;
+    Some(((to, Instr::Rnd), rest))
 }
 
-/// A constant or a copy that writes a register.
+/// A constant or a copy that writes a register, at the front, and the bytes behind it.
 #[tactic(auto, unfolding(crate::specs::Parsing::const_or_copy_into, crate::specs::Parsing::into_by))]
-fn const_or_copy_into(words: &[u8]) -> Option<(u32, Instr)>
-    ensures { result ≡ const_or_copy_into words.now }
+fn const_or_copy_into(bytes: &[u8]) -> Option<((u32, Instr), &[u8])>
+    ensures { Tells (λ x. (x.0, x.1.now)) result (const_or_copy_into bytes.now) }
 {
-    if let Some(rest) = after(b"const ", words) {
+    if let Some(rest) = after(b"const ", bytes) {
         let (to, rest) = target_at(rest)?;
-        let value = hex_of(rest)?;
-        return Some((to, Instr::Const { value }));
+        let (value, rest) = hex_at(rest)?;
+        return Some(((to, Instr::Const { value }), rest));
     }
-    let rest = after(b"copy ", words)?;
+    let rest = after(b"copy ", bytes)?;
     let (to, rest) = target_at(rest)?;
-    let from = number_of(rest)?;
-    Some((to, Instr::Copy { from }))
+    let (from, rest) = number_at(rest)?;
+    Some(((to, Instr::Copy { from }), rest))
 }
 
-/// A square that writes a register.
+/// A square that writes a register, at the front, and the bytes behind it.
 #[tactic(auto, unfolding(crate::specs::Parsing::sq_into, crate::specs::Parsing::into_by))]
-fn sq_into(words: &[u8]) -> Option<(u32, Instr)>
-    ensures { result ≡ sq_into words.now }
+fn sq_into(bytes: &[u8]) -> Option<((u32, Instr), &[u8])>
+    ensures { Tells (λ x. (x.0, x.1.now)) result (sq_into bytes.now) }
 {
-    let rest = after(b"sq ", words)?;
+    let rest = after(b"sq ", bytes)?;
     let (to, rest) = target_at(rest)?;
-    let from = number_of(rest)?;
-    Some((to, Instr::Sq { from }))
+    let (from, rest) = number_at(rest)?;
+    Some(((to, Instr::Sq { from }), rest))
 }
 
-/// The register that an instruction writes, and the instruction, with registers as operands: its line, up to the
-/// line feed. Its first letter chooses the kind.
-pub fn into_of(words: &[u8]) -> Option<(u32, Instr)>
-    ensures { result ≡ into_of words.now }
+/// The register that the instruction at the front writes, and the instruction, with registers as operands, which all
+/// digits there belong to, and the bytes behind it. Its first letter chooses the kind.
+pub fn into_at(bytes: &[u8]) -> Option<((u32, Instr), &[u8])>
+    ensures { Tells (λ x. (x.0, x.1.now)) result (into_at bytes.now) }
 {
-    let [kind, ..] = words else {
+    let [kind, ..] = bytes else {
         return None;
     };
     if *kind == b'a' {
-        return add_into(words);
+        return add_into(bytes);
     }
     if *kind == b'm' {
-        return mul_or_map_into(words);
+        return mul_or_map_into(bytes);
     }
     if *kind == b'r' {
-        return rnd_into(words);
+        return rnd_into(bytes);
     }
     if *kind == b'c' {
-        return const_or_copy_into(words);
+        return const_or_copy_into(bytes);
     }
     if *kind == b's' {
-        return sq_into(words);
+        return sq_into(bytes);
     }
     None
+}
+
+/// The register that an instruction writes, and the instruction, with registers as operands: its line, up to the
+/// line feed.
+#[tactic(auto, unfolding(crate::specs::Parsing::into_of, crate::specs::Parsing::whole))]
+pub fn into_of(words: &[u8]) -> Option<(u32, Instr)>
+    ensures { result ≡ into_of words.now }
+{
+    let (into, rest) = into_at(words)?;
+    if !rest.is_empty() {
+        return None;
+    }
+    Some(into)
 }
 
 /// The field of its line, up to the line feed: `field gf2` or `field gf256`.

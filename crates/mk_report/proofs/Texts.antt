@@ -30,6 +30,7 @@ use Rattle.mk_lines.specs.Words.{line, operand_word}
 use Rattle.mk_rules.proofs.Probes.{Contains-front}
 use Rattle.mk_report.specs.declared.need.ProductPlace.{ProductPlace}
 use Rattle.mk_report.specs.Reached.{ReachesPlace, ArePlacesOf}
+use Rattle.mk_regs.specs.Width.{width}
 use Rattle.mk_report.specs.Report.{IsReport, instrs_of, randoms_of, need_words, secret_line, block_line, total_line, NamesKind}
 use Rattle.mk_report.proofs.Ascending.{ascending-same}
 
@@ -89,7 +90,7 @@ report-one code cert text other first second =
     flat_map-same (λ row. block_line code.order row.0 row.1 (first.places (inputs + row.0)))
     (λ row. block_line code.order row.0 row.1 (second.places (inputs + row.0))) (enumerate_from 0 cert.blocks)
     (λ row. ap (block_line code.order row.0 row.1) (same (inputs + row.0))) in
-    let total : List ℕ = total_line code.order cert.blocks in
+    let total : List ℕ = total_line code.order cert.blocks (width code) in
     first.is
     ∙ ap (λ (t : List ℕ). t ++ flat_map (λ row. block_line code.order row.0 row.1 (first.places (inputs + row.0))) (enumerate_from 0 cert.blocks) ++ total) secrets
     ∙ ap (λ (t : List ℕ). flat_map (λ k. secret_line k (second.places k)) (range_with_len 0 code.secrets) ++ t ++ total) rows

@@ -34,8 +34,8 @@ pub second : block_line 1 1 product [] ≡ codes "b1 mul 9 1 0 -\n"
 unfolding digits randoms pairs_upto others
 second = refl
 
--- the line of what the two cost together
-pub total : total_line 1 (refresh ∷ product ∷ []) ≡ codes "total 2 12 2\n"
+-- the line of what the two cost together, in code that is seven wide
+pub total : total_line 1 (refresh ∷ product ∷ []) 7 ≡ codes "total 2 12 2 7\n"
 unfolding digits randoms pairs_upto others refresh_sum
 total = refl
 

@@ -1,4 +1,4 @@
--- The text of a report: a line for each secret, one for each block, and the totals.
+-- The text of a report: a line for each secret, one for each block, and the totals with the width.
 use Rattle.std.specs.Prelude.{◌≡◌, ℕ, false, nat_eq, ◌+◌, List, [], ◌∷◌, ◌++◌, length, take, codes, decimal}
 use Rattle.std.specs.List.{flat_map, list_any, range_with_len, enumerate_from, sum_by}
 use Rattle.mk_code.specs.Listing.{Listing}
@@ -7,6 +7,7 @@ use Rattle.mk_ssa.specs.declared.Op.{Op}
 use Rattle.mk_ssa.specs.declared.Operand.TheVariants.{Secret, Block}
 use Rattle.mk_ssa.specs.Operators.{operator_word}
 use Rattle.mk_gadget.specs.Template.{built_in}
+use Rattle.mk_regs.specs.Width.{width}
 use Rattle.mk_rules.specs.Shape.{Shape, shape_of}
 use Rattle.mk_rules.specs.Claimed.{Claimed}
 use Rattle.mk_lines.specs.CertLines.{op_line, block_line as line_of_block}
@@ -55,21 +56,21 @@ pub record NamesKind (order k : ℕ) (op : Op) (places : List ProductPlace) : Ty
   pub told : block_line order k op places ≡ line (operand_word (Block k) ++ codes " " ++ kind ++ codes " " ++ rest)
   pub written : op_line op ≡ line_of_block kind words
 
--- how many blocks there are, and what they cost together
-abbrev pub total_line : ℕ → List Op → List ℕ
-total_line order blocks =
+-- how many blocks there are, what they cost together, and how wide the code is
+abbrev pub total_line : ℕ → List Op → ℕ → List ℕ
+total_line order blocks width =
     line (codes "total " ++ decimal (length blocks) ++ codes " " ++ decimal (sum_by (instrs_of order) blocks) ++ codes " "
-    ++ decimal (sum_by (randoms_of order) blocks))
+    ++ decimal (sum_by (randoms_of order) blocks) ++ codes " " ++ decimal width)
 
--- the text where each value reaches these places
-abbrev pub report_text : Shape → List Op → (ℕ → List ProductPlace) → List ℕ
-report_text shape blocks places =
+-- the text where each value reaches these places, and the code has this width
+abbrev pub report_text : Shape → List Op → (ℕ → List ProductPlace) → ℕ → List ℕ
+report_text shape blocks places width =
     flat_map (λ k. secret_line k (places k)) (range_with_len 0 shape.secrets)
     ++ flat_map (λ row. block_line shape.order row.0 row.1 (places (shape.secrets + shape.publics + row.0))) (enumerate_from 0 blocks)
-    ++ total_line shape.order blocks
+    ++ total_line shape.order blocks width
 
--- the report: of each value the places of products that it reaches
+-- the report: of each value the places of products that it reaches, and of the code its width
 pub record IsReport (code : Listing) (cert : Claimed) (text : List ℕ) : Type 0 where
   pub places : ℕ → List ProductPlace
   pub reached : (v : ℕ) → ArePlacesOf (shape_of code) cert.blocks v (places v)
-  pub is : text ≡ report_text (shape_of code) cert.blocks places
+  pub is : text ≡ report_text (shape_of code) cert.blocks places (width code)

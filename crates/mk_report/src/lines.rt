@@ -155,33 +155,34 @@ fn total_of(blocks: &[Op], order: u8) -> Total
     Total { instrs, randoms }
 }
 
-/// Appends the line of the totals.
-fn push_total(text: &mut String, blocks: &[Op], order: u8) -> Result<(), AllocError>
+/// Appends the line of the totals and the width.
+fn push_total(text: &mut String, blocks: &[Op], order: u8, width: u32) -> Result<(), AllocError>
     requires order { (1 ≤ order) × (order ≤ TOP_ORDER) }
     requires small { length blocks.now < 2 ^ 32 }
-    ensures { OnOk result (string_bytes text.new ≡ string_bytes text.old ++ total_line order blocks.now) }
+    ensures { OnOk result (string_bytes text.new ≡ string_bytes text.old ++ total_line order blocks.now width) }
 {
     let total = total_of(blocks, order);
     let count = blocks.len();
     let instrs = total.instrs;
     let randoms = total.randoms;
-    write!(text, "total {count} {instrs} {randoms}\n")
+    write!(text, "total {count} {instrs} {randoms} {width}\n")
 }
 
-/// Appends the report of a code and its blocks, where the last value is told of first.
+/// Appends the report of a code of this width and its blocks, where the last value is told of first.
 pub(crate) fn push_report(
     text: &mut String,
     code: &Code,
     blocks: &[Op],
     told: &[Told],
+    width: u32,
 ) -> Result<(), AllocError>
     requires small { length blocks.now < 2 ^ 32 }
     requires count { length told.now ≡ code.now.secrets + code.now.publics + length blocks.now }
     ensures { OnOk result ((places : ℕ → List ProductPlace) → AreTold places told.now → string_bytes text.new
-        ≡ string_bytes text.old ++ report_text (shape_of code.now) blocks.now places) }
+        ≡ string_bytes text.old ++ report_text (shape_of code.now) blocks.now places width) }
 {
     code.law();
     push_secrets(text, code.secrets(), told)?;
     push_blocks(text, code, blocks, told)?;
-    push_total(text, blocks, code.order())
+    push_total(text, blocks, code.order(), width)
 }

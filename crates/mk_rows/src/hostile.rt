@@ -2,7 +2,7 @@
 
 use crate::outside::{CALM, Outside, WIDE};
 use crate::row::{answered, words_of};
-use crate::texts::{REFRESHED, SUM, SUM_BUNDLE};
+use crate::texts::{REFRESHED, SUM, SUM_BUNDLE, SUM_REGISTERS};
 use mk_base::{DropSink, MemSink, MemSource, Memory, Sink, Source, SureSource};
 use mk_top::{MOST_SOURCE_BYTES, Status, mask_main};
 use std::alloc::Global;
@@ -127,7 +127,7 @@ fn pieces_of(text: &str) -> u32 {
 
 /// The commands, what they read, and what they write.
 const COMMANDS: [(&[&str], &str, &str); 2] = [
-    (&["compile", "1"], SUM, SUM_BUNDLE),
+    (&["compile", "1"], SUM, SUM_REGISTERS),
     (&["check"], SUM_BUNDLE, "accepted\n"),
 ];
 
@@ -318,10 +318,11 @@ fn is_refused(alloc: Global, source: &str, status: Status, line: &str) -> Result
 fn sources_at_the_limits_are_taken_and_one_more_is_refused(rt: HostRuntime) -> Result<(), Memory> {
     let alloc = rt.alloc();
     let most = MOST_SOURCE_BYTES as usize;
-    assert!(rt; is_compiled(alloc, &commented(alloc, SUM, most)?, SUM_BUNDLE)?);
+    assert!(rt; is_compiled(alloc, &commented(alloc, SUM, most)?, SUM_REGISTERS)?);
     let long = commented(alloc, SUM, most + 1)?;
     assert!(rt; is_refused(alloc, &long, Status::TooLong, "10 too long 1048576\n")?);
-    let secret = "mask 1\nfield gf2\norder 1\nsecrets 1\npublics 0\nclaim s0\ncode\nout 0 1\nend\n";
+    let secret =
+        "mask 2\nfield gf2\norder 1\nsecrets 1\npublics 0\nregisters 2\nclaim s0\ncode\nout 0 1\nend\n";
     assert!(rt; is_compiled(alloc, &bracketed(alloc, 64)?, secret)?);
     assert!(rt;
         is_refused(

@@ -28,7 +28,7 @@ mod tests {
     #[test]
     fn each_command_is_carried_out(rt: HostRuntime) -> Result<(), Memory> {
         let rows: [Row; 11] = [
-            Row::done(&["compile", "1"], SUM, SUM_BUNDLE),
+            Row::done(&["compile", "1"], SUM, SUM_REGISTERS),
             Row::done(&["check"], SUM_BUNDLE, "accepted\n"),
             Row::done(&["regs"], SUM_BUNDLE, SUM_REGISTERS),
             Row::done(&["check"], SUM_REGISTERS, "accepted\n"),
@@ -48,7 +48,7 @@ mod tests {
             Row::done(
                 &["report"],
                 REFRESHED,
-                "s0 input 0 0 1 b1.1\nb0 refresh 3 1 1 b1.0\nb1 mul 9 1 0 -\ntotal 2 12 2\n",
+                "s0 input 0 0 1 b1.1\nb0 refresh 3 1 1 b1.0\nb1 mul 9 1 0 -\ntotal 2 12 2 7\n",
             ),
             Row::done(&["gen", "1"], "", ONE_TURN),
             Row::done(
@@ -72,7 +72,7 @@ mod tests {
             ..CALM
         };
         let rows: [Row; 3] = [
-            Row::refused(&["compile", "9"], SUM, Status::Words, "21 words\n"),
+            Row::refused(&["compile", "16"], SUM, Status::Words, "21 words\n"),
             Row::refused(
                 &["trial", "2470", "8"],
                 "",
@@ -112,7 +112,7 @@ mod tests {
             words: &["compile", "1"],
             input: SUM,
             status: Status::WriteFault,
-            out: "mask 1\nfield gf256\norder 1\nsecre",
+            out: "mask 2\nfield gf256\norder 1\nsecre",
             err: "7 write fault\n",
         }];
         assert!(rt; holds_each(rt.alloc(), &cut, &write)?);

@@ -17,7 +17,7 @@ use Rattle.mk_ssa.specs.declared.Op.TheVariants.{Const, PubAdd, PubMul, PubSq, P
 use Rattle.mk_ssa.specs.Widths.{OperandFits, OpFits}
 use Rattle.mk_ssa.proofs.Lists.{IsSomeAnd-value}
 use Rattle.mk_code.specs.declared.TheConstants.{MOST_INPUTS, MOST_MAPS}
-use Rattle.mk_rules.specs.declared.TheConstants.{TEXT_TOP_ORDER, MOST_BLOCKS, MOST_CLAIMS}
+use Rattle.mk_rules.specs.declared.TheConstants.{MOST_BLOCKS, MOST_CLAIMS}
 use Rattle.mk_rules.specs.Shape.{Shape, shape_of}
 use Rattle.mk_rules.specs.Claimed.{Claimed}
 use Rattle.mk_rules.specs.Wired.{IsSharedThere, IsPublicThere, IsWired, AllWired}
@@ -72,13 +72,12 @@ module _ (shape : Shape) (few : (shape.secrets ≤ MOST_INPUTS) × (shape.public
       recursion_from_All OperandFits claims (All-weaker (IsSharedThere shape blocks) OperandFits (λ v here. shared-fits blocks v count here) claims there)
 
 -- what the rule accepts is a pair, within the limits
-pub accepted-pair : (code : Listing) (cert : Claimed) → IsListing code → code.order ≤ TEXT_TOP_ORDER → AllByRecursion MapFits code.maps → IsAccepted code cert
+pub accepted-pair : (code : Listing) (cert : Claimed) → IsListing code → AllByRecursion MapFits code.maps → IsAccepted code cert
     → length cert.blocks ≤ MOST_BLOCKS → length cert.claims ≤ MOST_CLAIMS → IsPair code cert
-accepted-pair code cert listing order maps accepted few_blocks few_claims =
+accepted-pair code cert listing maps accepted few_blocks few_claims =
     let few : (code.secrets ≤ MOST_INPUTS) × (code.publics ≤ MOST_INPUTS) × (length code.maps ≤ MOST_MAPS) = (listing.secrets, listing.publics, listing.maps) in
     record {
       listing = listing;
-      order = order;
       maps = maps;
       blocks = all-fit (shape_of code) few [] cert.blocks (omega (arith, few_blocks)) accepted.wired;
       claims = claims-fit (shape_of code) few cert.blocks cert.claims few_blocks accepted.outputs.there;

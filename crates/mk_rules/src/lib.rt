@@ -11,9 +11,6 @@ mod products;
 mod rows;
 mod uses;
 
-/// The greatest masking order of a code that has a bundle text.
-pub const TEXT_TOP_ORDER: u8 = 8;
-
 /// The most blocks of a certificate that has a bundle text.
 pub const MOST_BLOCKS: u32 = 131_072;
 

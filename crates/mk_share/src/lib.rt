@@ -8,3 +8,4 @@ mod share_tests;
 mod with_order;
 
 pub use share::{Bank, Sharing, decode, encode, encoding_law, value_of};
+pub use with_order::shares_at;

@@ -3,7 +3,7 @@ ghost use Rattle.std.specs.Prelude.{◌≡◌, ◌+◌, ◌≤◌, ◌<◌, All,
 ghost use Rattle.mk_base.specs.declared.TheConstants.{TOP_ORDER};
 ghost use Rattle.mk_field.specs.Field.{size};
 
-use crate::{Bank, Sharing, decode, encode, encoding_law, with_order};
+use crate::{Bank, Sharing, decode, encode, encoding_law, shares_at, with_order};
 use mk_field::{Field, Gf2, Gf256};
 
 /// The value of its encoding.
@@ -16,22 +16,6 @@ fn round_trip<F: Field, const N: usize>(value: u8, tape: &[u8]) -> u8
     ensures { result ≡ value }
 {
     decode::<F, N>(&encode::<F, N>(value, tape))
-}
-
-/// The number of shares, by its type.
-fn shares<F: Field, const N: usize>() -> usize
-    ensures { result ≡ N }
-{
-    N
-}
-
-/// How many shares a value has at an order.
-fn shares_at(order: u8) -> usize
-    requires least { 1 ≤ order }
-    requires most { order ≤ TOP_ORDER }
-    ensures { result ≡ order + 1 }
-{
-    with_order!(order, shares::<Gf256>())
 }
 
 /// The number of shares and one more number.
@@ -119,7 +103,7 @@ fn most_shares(rt: HostRuntime) {
 
 #[test]
 fn one_share_more_than_the_order(rt: HostRuntime) {
-    for order in 1..=8 {
+    for order in 1..=15 {
         assert_eq!(rt; shares_at(order), usize::from(order) + 1);
         assert_eq!(rt; bit_shares_and(order, 5), usize::from(order) + 6);
     }

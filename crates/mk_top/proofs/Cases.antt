@@ -1,5 +1,6 @@
 -- What small programs decide under `compile`.
 use Rattle.std.proofs.Common.{◌≡◌, ℕ, ◌+◌, ◌*◌, ◌≤◌, List, [], ◌∷◌, Option, Some, None, refl, sym, ap, subst, codes, arith}
+use Rattle.mk_base.specs.declared.TheConstants.{TOP_ORDER}
 use Rattle.mk_base.specs.declared.Place.{Place}
 use Rattle.mk_field.specs.declared.field.FieldId.TheVariants.{Gf256}
 use Rattle.mk_ast.specs.declared.tree.Program.{Program as Tree}
@@ -43,11 +44,11 @@ product-units : (at : Place) → units (product at) ≡ Step ∷ Operation ∷ [
 product-units at = simp (expr_units_layers, stmt_units_layers) refl
 
 -- so it stays within the limits at the greatest order
-product-within : (at : Place) → CompileDecides 8 (product at) None
+product-within : (at : Place) → CompileDecides TOP_ORDER (product at) None
 product-within at = record {
   elements = omega arith;
   ends = ap stop (product-units at);
-  small = subst (λ (us : List WorkUnit). operations us * ((8 + 1) * (8 + 1)) ≤ 1000000) (sym (product-units at)) (omega arith);
+  small = subst (λ (us : List WorkUnit). operations us * ((TOP_ORDER + 1) * (TOP_ORDER + 1)) ≤ 1000000) (sym (product-units at)) (omega arith);
 }
 
 -- `field gf256;` `secret a[2];` `output y;` `y = a[2];`, where a stands at this place

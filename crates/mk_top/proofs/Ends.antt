@@ -3,9 +3,7 @@ use Rattle.std.proofs.Common.{◌≡◌, ℕ, ◌<◌, ◌≤◌, List, [], ◌�
 use Rattle.std.specs.Prelude.{option_map, codes}
 use Rattle.mk_base.specs.Outside.{Rose}
 use Rattle.mk_base.specs.Streams.{ReadsAll}
-use Rattle.mk_rules.specs.declared.cert.Bundle.{Bundle}
-use Rattle.mk_rules.specs.Pairs.{IsPair}
-use Rattle.mk_bundle.specs.Text.{text, register_text}
+use Rattle.mk_bundle.specs.Text.{register_text}
 use Rattle.mk_bundle.specs.Pairs.{IsRegisterPair, TextsReadOnce}
 use Rattle.mk_words.specs.declared.status.Status.TheVariants as status
 use Rattle.mk_top.specs.declared.answer.Answer.{Answer}
@@ -36,7 +34,7 @@ use Rattle.mk_top.proofs.Given.{made-given, no_text-given}
 makes-decides : (words : List (List ℕ)) (command : Command) (bytes written : List ℕ) → Asks words command → Makes command (Some bytes) written → length bytes ≤ limit_of command
     → Decides command bytes None
 makes-decides words (Compile order) bytes written asks makes within =
-    (within, (makes.0.tree, makes.0.source.spelled.spelled, makes.0.source.typed, makes.0.within))
+    (within, (makes.0.compiled.tree, makes.0.compiled.source.spelled.spelled, makes.0.compiled.source.typed, makes.0.compiled.within))
 makes-decides words Check bytes written asks makes within =
     (within, (makes.0.code, makes.0.cert, text-told bytes makes.0.code makes.0.cert makes.0.bundle, makes.0.accepted))
 makes-decides words (Eval ps ss) bytes written asks makes within =
@@ -197,19 +195,12 @@ pub text-answered : (words : List (List ℕ)) (input : Seen) (r : Result (List �
 text-answered words input (Ok text) given is made = subst (λ (g : Result Answer Fault). IfOk g (IsMade words input)) (sym is) (made.0, made.1, made.2, tt)
 text-answered words input (Err fault) given is made = subst (λ (g : Result Answer Fault). IfOk g (IsMade words input)) (sym is) tt
 
--- and so is a bundle whose code and certificate are a pair
-pub bundle-answered : (words : List (List ℕ)) (command : Command) (input : Seen) (r : Result Bundle Fault) (given : Result Answer Fault)
-    → given ≡ answered answer.Bundle r → Asks words command → IfOk r (λ b. Made command input (text b.code b.cert)) → IfOk r (λ b. IsPair b.code b.cert)
-    → IfOk given (IsMade words input)
-bundle-answered words command input (Ok b) given is asks made pair = subst (λ (g : Result Answer Fault). IfOk g (IsMade words input)) (sym is) (command, asks, made, pair)
-bundle-answered words command input (Err fault) given is asks made pair = subst (λ (g : Result Answer Fault). IfOk g (IsMade words input)) (sym is) tt
-
--- the same of register code and a certificate that are a pair
-pub registers-answered : (words : List (List ℕ)) (command : Command) (input : Seen) (r : Result RegisterBundle Fault) (given : Result Answer Fault)
-    → given ≡ answered answer.Registers r → Asks words command → IfOk r (λ made. Made command input (register_text made.code made.cert))
+-- and so is a bundle whose register code and certificate are a pair
+pub bundle-answered : (words : List (List ℕ)) (command : Command) (input : Seen) (r : Result RegisterBundle Fault) (given : Result Answer Fault)
+    → given ≡ answered answer.Bundle r → Asks words command → IfOk r (λ made. Made command input (register_text made.code made.cert))
     → IfOk r (λ made. IsRegisterPair made.code made.cert) → IfOk given (IsMade words input)
-registers-answered words command input (Ok b) given is asks made pair = subst (λ (g : Result Answer Fault). IfOk g (IsMade words input)) (sym is) (command, asks, made, pair)
-registers-answered words command input (Err fault) given is asks made pair = subst (λ (g : Result Answer Fault). IfOk g (IsMade words input)) (sym is) tt
+bundle-answered words command input (Ok made) given is asks makes pair = subst (λ (g : Result Answer Fault). IfOk g (IsMade words input)) (sym is) (command, asks, makes, pair)
+bundle-answered words command input (Err fault) given is asks makes pair = subst (λ (g : Result Answer Fault). IfOk g (IsMade words input)) (sym is) tt
 
 -- a fault stays
 pub fault-answered : {X : Type 0} (form : X → Answer) (P : Fault → Type 0) (r : Result X Fault) (given : Result Answer Fault)

@@ -9,27 +9,21 @@ use Rattle.mk_top.specs.declared.fault.Fault.{Fault}
 use Rattle.mk_top.specs.declared.fault.Fault.TheVariants as fault_
 use Rattle.mk_words.specs.Words.{Command, Compile, Check, Eval, Run, Count, Report, Gen, Trial, Table, Gadget, Regs, GivenTape}
 use Rattle.mk_code.specs.Listing.{Listing}
-use Rattle.mk_code.specs.Private.{Private}
 use Rattle.mk_rules.specs.Claimed.{Claimed}
 use Rattle.mk_bundle.specs.declared.TheConstants.{MOST_BYTES}
 use Rattle.mk_regs.specs.declared.refusal.RegRefusal.TheVariants as unnamed
 use Rattle.mk_regs.specs.Form.{RegListing}
-use Rattle.mk_bundle.specs.Pairs.{IsTextOf, IsBundleOf, IsRegisterTextOf, IsBundleText, IsRefusedText}
-use Rattle.mk_bundle.specs.Text.{text, register_text}
+use Rattle.mk_bundle.specs.Pairs.{IsBundleOf, IsBundleText, IsRefusedText}
+use Rattle.mk_bundle.specs.Text.{register_text}
 use Rattle.mk_bundle.specs.Taking.{Comes}
 use Rattle.mk_bundle.specs.Reads.{Collected, Denies}
 use Rattle.mk_bundle.specs.declared.refusal.StreamRefusal.{StreamRefusal}
 use Rattle.mk_bundle.specs.declared.refusal.StreamRefusal.TheVariants as refusals
 use Rattle.mk_lines.specs.Lines.{NamesFirst}
 use Rattle.mk_rules.specs.declared.cert.Bundle.{Bundle}
-use Rattle.mk_rules.specs.Accepts.{IsAccepted}
-use Rattle.mk_types.specs.Elements.{maps_of}
 use Rattle.mk_unroll.specs.Causes.{Cause}
-use Rattle.mk_place.specs.Different.{AllDifferButRefreshes}
-use Rattle.mk_compile.specs.Compiled.{IsWithin, IsCertified}
-use Rattle.mk_compile.specs.Correct.{Correct}
 use Rattle.mk_top.specs.Decided.{limit_of, TextDecides}
-use Rattle.mk_top.specs.Headline.{CompilesSo, Checks, Allocates, Evaluates, Makes}
+use Rattle.mk_top.specs.Headline.{IsCompiled, CompilesSo, Checks, Allocates, Evaluates, Makes}
 use Rattle.mk_top.specs.Because.{ReadWhole, Reads, IsAnswerOf, input_of}
 use Rattle.mk_top.specs.Sources.{IsSourceOf}
 use Rattle.mk_eval.specs.declared.refusal.EvalRefusal.{EvalRefusal}
@@ -49,30 +43,40 @@ use Rattle.mk_top.specs.Faults.{fault_of_bundle, fault_of_source, status_of, fau
 use Rattle.mk_top.specs.Seen.{Seen}
 use Rattle.mk_top.specs.Running.{NotMade, Made, NoText, NoBundle, TakesBundle}
 use Rattle.mk_top.specs.declared.answer.RegisterBundle.{RegisterBundle}
-use Rattle.mk_top.specs.Bundles.{IsPrivateInRegisters}
 use Rattle.mk_top.proofs.Bundles.{of-given, text-given}
 use Rattle.mk_top.proofs.Counted.{counts-given}
 use Rattle.mk_top.proofs.Reported.{reports-given}
 use Rattle.mk_top.proofs.Tabled.{tabulates-given}
 use Rattle.mk_top.proofs.Judged.{judges-given}
 use Rattle.mk_top.proofs.Causes.{IsLimitOrIndex, cause-kind}
-use Rattle.mk_top.proofs.Texts.{short-text}
 
 -- the source that was read is the one that was given
+compiled-given : (given after : Option (List ℕ)) (bytes : List ℕ) (order : ℕ) → IfSome given (λ rest. ReadsAll rest bytes after)
+    → IsCompiled order (Some bytes) → IsCompiled order given
+compiled-given given after bytes order read c = record {
+  tree = c.tree;
+  code = c.code;
+  cert = c.cert;
+  source = of-given (λ (bs : List ℕ). IsSourceOf bs c.tree) given after bytes read c.source;
+  typed = c.typed;
+  within = c.within;
+  correct = c.correct;
+  private = c.private;
+  accepted = c.accepted;
+}
+
+-- the same where a text was written
 compiles-given : (given after : Option (List ℕ)) (bytes written : List ℕ) (order : ℕ)
     → IfSome given (λ rest. ReadsAll rest bytes after) → CompilesSo order (Some bytes) written → CompilesSo order given written
+unfolding compiled-given
 compiles-given given after bytes written order read (c, made) = (
   record {
-    tree = c.tree;
-    code = c.code;
-    cert = c.cert;
-    source = of-given (λ (bs : List ℕ). IsSourceOf bs c.tree) given after bytes read c.source;
-    typed = c.typed;
-    within = c.within;
+    compiled = compiled-given given after bytes order read c.compiled;
+    allocated = c.allocated;
+    allocation = c.allocation;
     text = c.text;
     correct = c.correct;
     private = c.private;
-    accepted = c.accepted;
     checks = c.checks;
   },
   made,
@@ -95,11 +99,10 @@ pub checks-given : (given after : Option (List ℕ)) (bytes : List ℕ) → IfSo
 checks-given given after bytes read c = record {
   code = c.code;
   cert = c.cert;
-  bundle = text-given given after bytes c.code c.cert read c.bundle;
+  bundle = (c.bundle.0, c.bundle.1, of-given (λ (told : List ℕ). told ≡ c.bundle.0) given after bytes read c.bundle.2);
   accepted = c.accepted;
   private = c.private;
-  registers =
-      of-given (λ (bs : List ℕ). (r : RegListing) (cert : Claimed) → IsRegisterTextOf bs r cert → IsPrivateInRegisters r) given after bytes read c.registers;
+  registers = c.registers;
 }
 
 -- the same of a bundle whose code was allocated
@@ -158,10 +161,10 @@ made-given command input bytes (Ok written) within read makes = record {
 made-given command input bytes (Err fault) within read makes = tt
 
 -- and so is a bundle's text
-pub bundle-given : (command : Command) (input : Seen) (bytes : List ℕ) (r : Result Bundle Fault)
+pub bundle-given : (command : Command) (input : Seen) (bytes : List ℕ) (r : Result RegisterBundle Fault)
     → length bytes ≤ limit_of command → IfSome (input_of command input.before) (λ rest. ReadsAll rest bytes (input_of command input.after))
-    → IfOk r (λ b. Makes command (Some bytes) (text b.code b.cert)) → IfOk r (λ b. Made command input (text b.code b.cert))
-bundle-given command input bytes (Ok b) within read makes = made-given command input bytes (Ok (text b.code b.cert)) within read makes
+    → IfOk r (λ b. Makes command (Some bytes) (register_text b.code b.cert)) → IfOk r (λ b. Made command input (register_text b.code b.cert))
+bundle-given command input bytes (Ok b) within read makes = made-given command input bytes (Ok (register_text b.code b.cert)) within read makes
 bundle-given command input bytes (Err fault) within read makes = tt
 
 -- the fault of a refused evaluation has one of the answers of `eval`
@@ -325,27 +328,6 @@ runs-made ps ss tape bytes written code cert is taken lines = record {
   taken = taken;
   bytes = lines;
 }
-
--- a source was compiled where its code and certificate are what they promise
-pub compiles-made : (order : ℕ) (bytes written : List ℕ) (tree : Tree) (code : Listing) (cert : Claimed)
-    → IsSourceOf bytes tree → IsWithin tree order → Correct tree order code → code.maps ≡ maps_of tree.decls → Private code → IsCertified tree cert → AllDifferButRefreshes cert.blocks → IsAccepted code cert
-    → IsTextOf written code cert → CompilesSo order (Some bytes) written
-compiles-made order bytes written tree code cert source within correct maps private certified different accepted spelled = (
-  record {
-    tree = tree;
-    code = code;
-    cert = cert;
-    source = source;
-    typed = source.typed;
-    within = within;
-    text = spelled;
-    correct = correct;
-    private = private;
-    accepted = accepted;
-    checks = (subst (λ (bs : List ℕ). length bs ≤ MOST_BYTES) (sym spelled.1) (short-text code cert spelled.0), (code, cert, inl spelled, accepted));
-  },
-  record { certified = certified; different = different; maps = maps },
-)
 
 -- what came up to the end is all that the input gave
 pub came-whole : (before after : Option (List ℕ)) (came : List ℕ) → Comes came before after → IfSome before (λ rest. after ≡ Some [])

@@ -15,7 +15,7 @@ use Rattle.mk_bundle.proofs.Gathering.{gather_more, gather_pair}
 use Rattle.mk_check.specs.Given.{Checking, Given}
 use Rattle.mk_check.specs.Outlines.{IsOver}
 use Rattle.mk_top.specs.Reading.{Reading, GivesBundle, GivesCertificate, IsHeadOf, IsBegun}
-use Rattle.mk_top.proofs.Renamed.{bundle-kept}
+use Rattle.mk_top.proofs.Renamed.{bundle-pair}
 use Rattle.mk_top.proofs.Events.{IsLower, coded-next, gathered-few, outs-few}
 
 -- the events so far
@@ -96,7 +96,7 @@ pub judged-code : (before now after : Option (List ℕ)) (reader : Reader) (chec
     → (w : GivesBundle before after (event.Head b.head ∷ ((b.upper ++ event.Code ∷ []) ++ b.lower)))
     → IsOver w.code checker.outline × Given checker w.code.instrs w.code.outs × (checker.cert ≡ w.cert)
 judged-code before now after reader checker b w =
-    let pair = gather_pair w.code w.cert (event.Head b.head ∷ ((b.upper ++ event.Code ∷ []) ++ b.lower)) b.gathered (bundle-kept w.bytes w.code w.cert w.text).listing w.gave b.gives in
+    let pair = gather_pair w.code w.cert (event.Head b.head ∷ ((b.upper ++ event.Code ∷ []) ++ b.lower)) b.gathered (bundle-pair w.bytes w.code w.cert w.text).listing w.gave b.gives in
     let code : code_of b.gathered ≡ w.code = pair.0 in (
       record {
         field = sym (ap (λ (c : Listing). c.field) code) ∙ ap (λ h. h.field) b.same ∙ b.over.field;

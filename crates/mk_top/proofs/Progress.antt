@@ -28,7 +28,7 @@ use Rattle.mk_top.specs.Faults.{fault_of_bundle, fault_of_check}
 use Rattle.mk_top.specs.Seen.{Seen}
 use Rattle.mk_top.specs.Reading.{Reading, GivesBundle, IsInput}
 use Rattle.mk_top.specs.Running.{NoBundle, NotMade, NoText, Made, Checked}
-use Rattle.mk_top.proofs.Renamed.{bundle-kept}
+use Rattle.mk_top.proofs.Renamed.{bundle-pair}
 use Rattle.mk_top.proofs.Allocated.{checks-made}
 use Rattle.mk_top.proofs.Given.{no_bundle, came-whole, no_text-given, read-given, checks-given}
 
@@ -116,7 +116,7 @@ element-maps Gf256 maps only fit = All-from_recursion (λ (m : AddMap). All (λ 
 -- a bundle that was checked makes the line that tells so
 pub checked-made : (input : Seen) (line : List ℕ) → Checked input.before input.after → line ≡ codes "accepted\n" → Made Check input line
 checked-made input line c is =
-    let kept = bundle-kept c.bytes c.code c.cert c.text in
+    let kept = bundle-pair c.bytes c.code c.cert c.text in
     let private = accepted_built_in-private c.code c.cert (element-maps c.code.field c.code.maps kept.listing.bytes kept.maps) c.accepted in
     record {
       read = read-given input.before input.after c.bytes MOST_BYTES c.within c.whole;

@@ -7,6 +7,7 @@ use Rattle.std.proofs.lemmas.Fmt.{length-decimal-le}
 use Rattle.std.proofs.lemmas.List.{length-append, length-set}
 use Rattle.std.proofs.lemmas.List.Elements.{All-from_recursion}
 use Rattle.std.proofs.Math.Nat.{mul-le-mul_right, mul-le-mul_left, div-le_self}
+use Rattle.mk_base.specs.declared.TheConstants.{TOP_ORDER}
 use Rattle.mk_field.specs.declared.field.FieldId.{FieldId}
 use Rattle.mk_field.specs.declared.field.FieldId.TheVariants.{Gf2, Gf256}
 use Rattle.mk_field.specs.Field.{size}
@@ -18,6 +19,7 @@ use Rattle.mk_code.specs.declared.instr.Instr.TheVariants as op
 use Rattle.mk_code.specs.Counting.{sum_below}
 use Rattle.mk_code.specs.Listing.{Listing, inputs_len}
 use Rattle.mk_rules.specs.Claimed.{Claimed}
+use Rattle.mk_rules.specs.Pairs.{IsPair}
 use Rattle.mk_lines.specs.Words.{line}
 use Rattle.mk_lines.specs.CertLines.{op_line, claim_line}
 use Rattle.mk_lines.specs.CodeLines.{field_line, map_line, out_lines, into_line, IntoFits}
@@ -33,7 +35,6 @@ use Rattle.mk_bundle.specs.declared.TheConstants.{MOST_BYTES}
 use Rattle.mk_bundle.specs.Pairs.{IsRegisterPair, RegisterFits}
 use Rattle.mk_bundle.specs.Text.{register_text, register_line, number_line, first_lines}
 use Rattle.mk_top.proofs.Texts.{short-lines, short-op, short-claim, short-map, short-outs, short-field, short-number, one-word, two-words}
-use Rattle.mk_top.proofs.Renamed.{IsKept}
 
 -- ---- how many registers there are
 
@@ -122,19 +123,19 @@ all-wider n m [] few all = tt
 all-wider n m (k ∷ ks) few all = (omega (arith, all.0, few), all-wider n m ks few all.1)
 
 -- so register code that is renamed to the code of a bundle is a pair with its certificate
-pub register-pair : (r : RegListing) (code : Listing) (cert : Claimed) → IsRegListing r → IsRenamed r code → IsKept code cert → IsRegisterPair r cert
-register-pair r code cert listing is kept =
+pub register-pair : (r : RegListing) (code : Listing) (cert : Claimed) → IsRegListing r → IsRenamed r code → IsPair code cert → IsRegisterPair r cert
+register-pair r code cert listing is pair =
     let names = renamed-names r code is in
     let few : r.registers ≤ 2 ^ 32 = omega (arith, listing.registers.1) in
     record {
       listing = listing;
-      maps = subst (λ (c : Listing). AllByRecursion MapFits c.maps) (sym is.same) kept.maps;
+      maps = subst (λ (c : Listing). AllByRecursion MapFits c.maps) (sym is.same) pair.maps;
       instrs = all-fit r.field (length r.maps) r.registers r.instrs few (omega (arith, listing.maps)) names.0 listing.parts;
       outs = all-wider r.registers (2 ^ 32) r.outs few names.1;
-      blocks = kept.blocks;
-      claims = kept.claims;
-      few_blocks = kept.few_blocks;
-      few_claims = kept.few_claims;
+      blocks = pair.blocks;
+      claims = pair.claims;
+      few_blocks = pair.few_blocks;
+      few_claims = pair.few_claims;
     }
 
 -- ---- how long the text is
@@ -226,9 +227,9 @@ short-register_text code r cert is pair =
     let end : List ℕ = line (codes "end") in
     let front : List ℕ = first ++ maps ++ count in
     let listing : IsRegListing r = pair.listing in
-    let order : r.order ≤ 15 = omega (arith, listing.order.1) in
-    let inputs : r.secrets * n ≤ 65536 * 16 = omega (arith, mul-le-mul_right n listing.secrets, mul-le-mul_left 65536 order) in
-    let outputs : length r.outs ≤ 65536 * 16 = omega (arith, listing.outputs.2, mul-le-mul_right n listing.outputs.1, mul-le-mul_left 65536 order) in
+    let order : r.order ≤ TOP_ORDER = omega (arith, listing.order.1) in
+    let inputs : r.secrets * n ≤ 65536 * (TOP_ORDER + 1) = omega (arith, mul-le-mul_right n listing.secrets, mul-le-mul_left 65536 order) in
+    let outputs : length r.outs ≤ 65536 * (TOP_ORDER + 1) = omega (arith, listing.outputs.2, mul-le-mul_right n listing.outputs.1, mul-le-mul_left 65536 order) in
     let few : r.registers ≤ 10 ^ 7 = omega (arith, few-registers code r is listing, inputs, listing.publics, listing.few) in
     let names = renamed-names r code is.renamed in
     let f : length first ≤ 200 =

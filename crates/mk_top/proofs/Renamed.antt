@@ -1,17 +1,14 @@
 -- Register code that is renamed to code.
-use Rattle.std.proofs.Common.{◌≡◌, ℕ, ◌+◌, ◌*◌, ◌≤◌, List, [], ◌∷◌, Option, Some, length, inl, inr, refl, sym, ◌∙◌, ap, subst, append-nil}
-use Rattle.std.specs.List.{AllByRecursion}
+use Rattle.std.proofs.Common.{Option, ◌≡◌, ℕ, ◌+◌, ◌*◌, ◌≤◌, List, [], ◌∷◌, Some, length, inl, inr, refl, sym, ◌∙◌, ap, subst, append-nil}
 use Rattle.std.proofs.lemmas.List.{length-map}
 use Rattle.mk_field.specs.Field.{size}
-use Rattle.mk_field.specs.Maps.{MapFits}
 use Rattle.mk_field.specs.Sharing.{decoded}
-use Rattle.mk_ssa.specs.Widths.{OperandFits, OpFits}
-use Rattle.mk_code.specs.Listing.{Listing, IsListing}
+use Rattle.mk_code.specs.Listing.{Listing}
 use Rattle.mk_code.specs.Trace.{trace, randoms, takes}
 use Rattle.mk_code.specs.Counting.{Elements}
 use Rattle.mk_code.specs.Private.{observation, Private}
-use Rattle.mk_rules.specs.declared.TheConstants.{MOST_BLOCKS, MOST_CLAIMS}
 use Rattle.mk_rules.specs.Claimed.{Claimed}
+use Rattle.mk_rules.specs.Pairs.{IsPair}
 use Rattle.mk_regs.specs.declared.instr.RegInstr.{RegInstr}
 use Rattle.mk_regs.specs.Form.{RegListing, IsRegListing, operation, entries_len}
 use Rattle.mk_regs.specs.Renaming.{position_in, held_on_entry, stepped, renamed_instrs, renamed, IsRenamed}
@@ -59,6 +56,7 @@ values-renamed p order r code room is correct publics shares tape public shared 
 -- so register code that is renamed to correct code is correct
 pub correct-renamed : CorrectnessLaw
 correct-renamed p order r code listing is correct = record {
+  runs = is.runs;
   field = ap (λ (c : Listing). c.field) is.same ∙ correct.field;
   same_order = ap (λ (c : Listing). c.order) is.same ∙ correct.same_order;
   secrets = ap (λ (c : Listing). c.secrets) is.same ∙ correct.secrets;
@@ -71,7 +69,7 @@ correct-renamed p order r code listing is correct = record {
 pub private-renamed : (r : RegListing) (code : Listing) → IsRegListing r → IsRenamed r code → Private code → IsPrivateInRegisters r
 private-renamed r code listing is private =
     let over = (renaming-laws r code listing.registers.0 is).private.1 private in
-    (over, writes-private r over)
+    (is.runs, over, writes-private r over)
 
 -- where the bytes of a bundle are the text of register code, this is renamed to the code of the bundle
 text-renamed : (bytes : List ℕ) (r : RegListing) (code : Listing) (cert claimed : Claimed) → IsBundleOf bytes code cert → IsRegisterTextOf bytes r claimed → IsRenamed r code
@@ -82,29 +80,13 @@ text-renamed bytes r code cert claimed (inr is) has =
     subst (λ (s : RegListing). IsRenamed s code) (sym same.0) is.2
 
 -- so it is private where the code of the bundle is
-pub text-private : (bytes : List ℕ) (code : Listing) (cert : Claimed) → IsBundleOf bytes code cert → Private code → AreRegistersPrivate (Some bytes)
+pub text-private : (bytes : List ℕ) (code : Listing) (cert : Claimed) → IsBundleOf bytes code cert → Private code → AreRegistersPrivate bytes
 text-private bytes code cert is private = λ r claimed has. private-renamed r code has.0.listing (text-renamed bytes r code cert claimed is has) private
 
--- what a text of either version keeps of its code and certificate
-pub record IsKept (code : Listing) (cert : Claimed) : Type 0 where
-  pub listing : IsListing code
-  pub maps : AllByRecursion MapFits code.maps
-  pub blocks : AllByRecursion OpFits cert.blocks
-  pub claims : AllByRecursion OperandFits cert.claims
-  pub few_blocks : length cert.blocks ≤ MOST_BLOCKS
-  pub few_claims : length cert.claims ≤ MOST_CLAIMS
-
--- a bundle has a text that keeps it
-pub bundle-kept : (bytes : List ℕ) (code : Listing) (cert : Claimed) → IsBundleOf bytes code cert → IsKept code cert
-bundle-kept bytes code cert (inl is) = record {
-  listing = is.0.listing;
-  maps = is.0.maps;
-  blocks = is.0.blocks;
-  claims = is.0.claims;
-  few_blocks = is.0.few_blocks;
-  few_claims = is.0.few_claims;
-}
-bundle-kept bytes code cert (inr (r, is, renames)) = subst (λ (c : Listing). IsKept c cert) renames.same (
+-- a bundle has a text of a pair
+pub bundle-pair : (bytes : List ℕ) (code : Listing) (cert : Claimed) → IsBundleOf bytes code cert → IsPair code cert
+bundle-pair bytes code cert (inl is) = is.0.pair
+bundle-pair bytes code cert (inr (r, is, renames)) = subst (λ (c : Listing). IsPair c cert) renames.same (
     record {
       listing = renamed-fits r is.0.listing renames.runs;
       maps = is.0.maps;

@@ -3,6 +3,7 @@ use Rattle.std.proofs.Common.{◌≡◌, ℕ, ◌+◌, ◌*◌, ◌≤◌, ◌<�
 use Rattle.std.specs.Prelude.{option_map}
 use Rattle.std.proofs.lemmas.Bool.{lt-ltb, le-ltb}
 use Rattle.std.proofs.Math.Nat.{mul-le-mul_right}
+use Rattle.mk_base.specs.declared.TheConstants.{TOP_ORDER}
 use Rattle.mk_base.specs.declared.Which.TheVariants as which_
 use Rattle.mk_base.specs.Inputs.{wrong_number, no_element}
 use Rattle.mk_base.specs.Streams.{ReadsAll}
@@ -64,12 +65,12 @@ module _ (table written : List ℕ) (tree : Tree) (is : IsTabled table tree writ
       element_taken = rw inside refl
 
   -- it is within the limits at each order
-  tabled-within : (order : ℕ) → order ≤ 8 → IsWithin tree order
+  tabled-within : (order : ℕ) → order ≤ TOP_ORDER → IsWithin tree order
   tabled-within order few = record {
     elements = is.few_elements;
     ends = is.ends;
     small =
-        let shares : (order + 1) * (order + 1) ≤ 9 * (order + 1) = mul-le-mul_right (order + 1) (omega (arith, few)) in
+        let shares : (order + 1) * (order + 1) ≤ (TOP_ORDER + 1) * (order + 1) = mul-le-mul_right (order + 1) (omega (arith, few)) in
         subst (λ (n : ℕ). n * ((order + 1) * (order + 1)) ≤ 1000000) (sym is.operations) (omega (arith, shares, few));
   }
 

@@ -11,22 +11,14 @@ use Rattle.mk_ast.specs.Canonical.{ended}
 use Rattle.mk_ast.specs.Spells.{Spells}
 use Rattle.mk_parse.proofs.Refusals.{one_program}
 use Rattle.mk_types.specs.declared.offence.Offence.{Offence}
-use Rattle.mk_types.specs.Elements.{maps_of}
 use Rattle.mk_types.specs.First.{IsFirst}
 use Rattle.mk_types.specs.Offences.{offences}
 use Rattle.mk_types.specs.Stops.{Event}
 use Rattle.mk_types.proofs.Least.{none_first}
 use Rattle.mk_unroll.specs.Causes.{Cause, Elements, Stops, Size}
 use Rattle.mk_code.specs.Listing.{Listing}
-use Rattle.mk_code.specs.Private.{Private}
 use Rattle.mk_code.specs.Trace.{randoms}
 use Rattle.mk_rules.specs.Claimed.{Claimed}
-use Rattle.mk_rules.specs.Accepts.{IsAccepted}
-use Rattle.mk_place.specs.Different.{AllDifferButRefreshes}
-use Rattle.mk_bundle.specs.Text.{text}
-use Rattle.mk_rules.specs.Pairs.{IsPair}
-use Rattle.mk_compile.specs.Compiled.{IsWithin, IsCertified}
-use Rattle.mk_compile.specs.Correct.{Correct}
 use Rattle.mk_gen.specs.Generated.{declaration_lines, generated, IsGenerated}
 use Rattle.mk_gen.proofs.Spelled.{generated_program}
 use Rattle.mk_top.specs.declared.fault.Fault.{Fault}
@@ -38,7 +30,6 @@ use Rattle.mk_top.specs.Headline.{Tries, is_refresh, trial_line}
 use Rattle.mk_top.specs.Sources.{IsSourceOf}
 use Rattle.mk_top.specs.Faults.{fault_of_source}
 use Rattle.mk_top.specs.Running.{NotMade, NotTyped}
-use Rattle.mk_top.proofs.Texts.{short-text}
 
 -- what the text spells is the program that was generated
 pub spelled-generated : (turns : ℕ) (tree : Tree) → turns ≤ 3276 → Spells tree (generated turns) → IsGenerated turns tree
@@ -157,26 +148,3 @@ trial_line-of code cert before written blocks refreshes instrs elements none is 
     ∙ ap (λ (k : ℕ). numbers_line (length cert.blocks) k instrs elements) r
     ∙ ap (λ (k : ℕ). numbers_line (length cert.blocks) (count_by is_refresh cert.blocks) k elements) i
     ∙ ap (λ (k : ℕ). numbers_line (length cert.blocks) (count_by is_refresh cert.blocks) (length code.instrs) k) n
-
--- the generator's text was tried where its code and certificate are what they promise
-pub tries-made : (turns order : ℕ) (written : List ℕ) (tree : Tree) (code : Listing) (cert : Claimed)
-    → IsSourceOf (generated turns) tree → IsWithin tree order → Correct tree order code → code.maps ≡ maps_of tree.decls → Private code → IsCertified tree cert → AllDifferButRefreshes cert.blocks → IsAccepted code cert
-    → IsPair code cert → written ≡ trial_line code cert → Tries turns order written
-tries-made turns order written tree code cert is_source within correct maps private certified different accepted pair line = record {
-  bundle = text code cert;
-  compiled = record {
-    tree = tree;
-    code = code;
-    cert = cert;
-    source = is_source;
-    typed = is_source.typed;
-    within = within;
-    text = (pair, refl);
-    correct = correct;
-    private = private;
-    accepted = accepted;
-    checks = (short-text code cert pair, (code, cert, inl (pair, refl), accepted));
-  };
-  made = record { certified = certified; different = different; maps = maps };
-  bytes = line;
-}

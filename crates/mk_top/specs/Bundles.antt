@@ -1,7 +1,8 @@
 -- What an input gave where it was read as a bundle.
-use Rattle.std.specs.Prelude.{◌≡◌, ℕ, List, Option, IfSome}
+use Rattle.std.specs.Prelude.{◌≡◌, ℕ, List, Option, None, IfSome}
 use Rattle.mk_code.specs.Listing.{Listing}
 use Rattle.mk_regs.specs.Form.{RegListing}
+use Rattle.mk_regs.specs.Renaming.{refusal_of}
 use Rattle.mk_regs.specs.Trace.{IsPrivateOverRegisters}
 use Rattle.mk_regs.specs.Transitions.{IsPrivateAtWrites}
 use Rattle.mk_rules.specs.Claimed.{Claimed}
@@ -12,11 +13,10 @@ use Rattle.mk_bundle.specs.Pairs.{IsBundleOf, IsRegisterTextOf}
 abbrev pub GivesText : Option (List ℕ) → Listing → Claimed → Type 0
 GivesText given code cert = (bytes : List ℕ) × IsBundleOf bytes code cert × IfSome given (λ told. told ≡ bytes)
 
--- register code is private: over its trace, and at its writes
+-- register code is private: it has a trace, and is private over it and at its writes
 abbrev pub IsPrivateInRegisters : RegListing → Type 0
-IsPrivateInRegisters r = IsPrivateOverRegisters r × IsPrivateAtWrites r
+IsPrivateInRegisters r = (refusal_of r ≡ None) × IsPrivateOverRegisters r × IsPrivateAtWrites r
 
--- where the bytes of the input are the text of register code, whatever its certificate, this code is private
-abbrev pub AreRegistersPrivate : Option (List ℕ) → Type 0
-AreRegistersPrivate given =
-    IfSome given (λ bytes. (r : RegListing) (cert : Claimed) → IsRegisterTextOf bytes r cert → IsPrivateInRegisters r)
+-- where the bytes are the text of register code, whatever its certificate, this code is private
+abbrev pub AreRegistersPrivate : List ℕ → Type 0
+AreRegistersPrivate bytes = (r : RegListing) (cert : Claimed) → IsRegisterTextOf bytes r cert → IsPrivateInRegisters r

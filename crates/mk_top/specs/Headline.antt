@@ -8,9 +8,10 @@ use Rattle.mk_ssa.specs.declared.Op.{Op}
 use Rattle.mk_ssa.specs.declared.Op.TheVariants.{Refresh}
 use Rattle.mk_rules.specs.Claimed.{Claimed}
 use Rattle.mk_rules.specs.Accepts.{IsAccepted}
-use Rattle.mk_regs.specs.Form.{RegListing}
+use Rattle.mk_regs.specs.Form.{RegListing, IsRegListing}
 use Rattle.mk_regs.specs.Allocation.{IsAllocated}
-use Rattle.mk_bundle.specs.Pairs.{IsTextOf, IsRegisterTextOf}
+use Rattle.mk_bundle.specs.Pairs.{IsRegisterTextOf}
+use Rattle.mk_bundle.specs.Text.{register_text}
 use Rattle.mk_ast.specs.declared.tree.Program.{Program as Tree}
 use Rattle.mk_types.specs.Offences.{IsWellTyped}
 use Rattle.mk_types.specs.Elements.{maps_of}
@@ -23,6 +24,7 @@ use Rattle.mk_compile.specs.Compiled.{IsWithin, IsCertified}
 use Rattle.mk_compile.specs.Correct.{Correct}
 use Rattle.mk_words.specs.Words.{Command, Compile, Check, Eval, Run, Count, Report, Gen, Trial, Table, Gadget, Regs, elements_word}
 use Rattle.mk_top.specs.Sources.{IsSourceOf}
+use Rattle.mk_top.specs.Registers.{CorrectOverRegisters}
 use Rattle.mk_top.specs.Bundles.{GivesText, IsPrivateInRegisters, AreRegistersPrivate}
 use Rattle.mk_top.specs.Runs.{Runs}
 use Rattle.mk_top.specs.Counts.{Counts}
@@ -38,22 +40,31 @@ TakesWhole before written after = IfSome before (λ taken. after ≡ Some (taken
 abbrev pub TakesSome : Option (List ℕ) → List ℕ → Option (List ℕ) → Type 0
 TakesSome before written after = IfSome before (λ taken. TakesPrefix taken written after)
 
--- A source, given where the input tells its bytes, was compiled at this order to this text: the bytes
--- spell one tree, which is well typed and within the limits, and the text is that of one code and certificate.
--- From every sharing of the secrets and every random tape the code gives a sharing of the tree's result. The code is
--- private. The rule accepts the code with its certificate, and the bytes of the text, which are within the limit of a
--- bundle, decide that `check` has no fault.
-pub record Compiles (order : ℕ) (given : Option (List ℕ)) (written : List ℕ) : Type 0 where
+-- A source, given where the input tells its bytes, is compiled at this order to a code and a certificate: the bytes
+-- spell one tree, which is well typed and within the limits. From every sharing of the secrets and every random tape
+-- the code gives a sharing of the tree's result. The code is private, and the rule accepts it with its certificate.
+pub record IsCompiled (order : ℕ) (given : Option (List ℕ)) : Type 0 where
   pub tree : Tree
   pub code : Listing
   pub cert : Claimed
   pub source : IfSome given (λ bytes. IsSourceOf bytes tree)
   pub typed : IsWellTyped tree
   pub within : IsWithin tree order
-  pub text : IsTextOf written code cert
   pub correct : Correct tree order code
   pub private : Private code
   pub accepted : IsAccepted code cert
+
+-- A source, given where the input tells its bytes, was compiled at this order to this text: that of the register code
+-- that is allocated for the code, with the certificate. From every sharing of the secrets and every random tape the
+-- register code gives a sharing of the tree's result, and it is private, over its trace and at its writes. The bytes of
+-- the text, which are within the limit of a bundle, decide that `check` has no fault.
+pub record Compiles (order : ℕ) (given : Option (List ℕ)) (written : List ℕ) : Type 0 where
+  pub compiled : IsCompiled order given
+  pub allocated : RegListing
+  pub allocation : IsAllocated compiled.code allocated
+  pub text : IsRegisterTextOf written allocated compiled.cert
+  pub correct : CorrectOverRegisters compiled.tree order allocated
+  pub private : IsPrivateInRegisters allocated
   pub checks : Decides Check written None
 
 -- How a code and its certificate are made of a tree: the certificate is that of the values that the tree is unrolled to,
@@ -65,7 +76,7 @@ pub record IsMadeOf (tree : Tree) (code : Listing) (cert : Claimed) : Type 0 whe
 
 -- the same of a source that was compiled, and how its code and certificate are made
 abbrev pub CompilesSo : ℕ → Option (List ℕ) → List ℕ → Type 0
-CompilesSo order given written = (c : Compiles order given written) × IsMadeOf c.tree c.code c.cert
+CompilesSo order given written = (c : Compiles order given written) × IsMadeOf c.compiled.tree c.compiled.code c.compiled.cert
 
 -- A bundle, given where the input tells its bytes, was checked: the bytes are a text of a code and a
 -- certificate, whoever wrote them, the rule accepts the code with its certificate, and it is private. Where they are the
@@ -76,7 +87,7 @@ pub record Checks (given : Option (List ℕ)) : Type 0 where
   pub bundle : GivesText given code cert
   pub accepted : IsAccepted code cert
   pub private : Private code
-  pub registers : AreRegistersPrivate given
+  pub registers : AreRegistersPrivate bundle.0
 
 -- A bundle, given where the input tells its bytes, was checked, and a text was written: that of the register code that is
 -- allocated for its code, with the same certificate. The register code is private, over its trace and at its writes. The
@@ -128,11 +139,12 @@ trial_line code cert =
     ++ codes " instructions " ++ decimal (length code.instrs) ++ codes " randoms " ++ decimal (randoms code.instrs) ++ codes " accepted\n"
 
 -- The generator's text with so many turns was tried at an order: the text written is the line of the code and
--- certificate that it is compiled to.
+-- certificate that it is compiled to. Whatever register code is allocated for the code, the bytes of its text with the
+-- certificate decide that `check` has no fault.
 pub record Tries (turns order : ℕ) (written : List ℕ) : Type 0 where
-  pub bundle : List ℕ
-  pub compiled : Compiles order (Some (generated turns)) bundle
+  pub compiled : IsCompiled order (Some (generated turns))
   pub made : IsMadeOf compiled.tree compiled.code compiled.cert
+  pub checks : (r : RegListing) → IsRegListing r → IsAllocated compiled.code r → Decides Check (register_text r compiled.cert) None
   pub bytes : written ≡ trial_line compiled.code compiled.cert
 
 -- what a command made of its input, and the text that it writes

@@ -7,8 +7,7 @@ use Rattle.mk_rules.specs.Claimed.{Claimed}
 use Rattle.mk_rules.specs.Accepts.{IsAccepted}
 use Rattle.mk_bundle.specs.declared.TheConstants.{MOST_BYTES}
 use Rattle.mk_bundle.specs.Pairs.{IsBundleOf, IsRegisterPair}
-use Rattle.mk_rules.specs.Pairs.{IsPair}
-use Rattle.mk_bundle.specs.Text.{text, register_text}
+use Rattle.mk_bundle.specs.Text.{register_text}
 use Rattle.mk_top.specs.declared.answer.Answer.{Answer}
 use Rattle.mk_top.specs.declared.answer.Answer.TheVariants as answer
 use Rattle.mk_top.specs.declared.fault.Fault.{Fault}
@@ -86,17 +85,15 @@ pub record Made (command : Command) (input : Seen) (written : List ℕ) : Type 0
   pub read : ReadWhole (limit_of command) (input_of command input.before) (input_of command input.after)
   pub makes : Makes command (input_of command input.before) written
 
--- the text of an answer: its own, or that of its bundle, or of its register code and certificate
+-- the text of an answer: its own, or that of its register code and certificate
 abbrev pub text_of : Answer → List ℕ
 text_of (answer.Text bytes) = bytes
-text_of (answer.Bundle bundle) = text bundle.code bundle.cert
-text_of (answer.Registers made) = register_text made.code made.cert
+text_of (answer.Bundle made) = register_text made.code made.cert
 
--- an answer can be written: its code and certificate are a pair
+-- an answer can be written: its register code and certificate are a pair
 abbrev pub HasText : Answer → Type 0
 HasText (answer.Text bytes) = Unit {0}
-HasText (answer.Bundle bundle) = IsPair bundle.code bundle.cert
-HasText (answer.Registers made) = IsRegisterPair made.code made.cert
+HasText (answer.Bundle made) = IsRegisterPair made.code made.cert
 
 -- what was made, as an answer
 abbrev pub answered : {X : Type 0} → (X → Answer) → Result X Fault → Result Answer Fault

@@ -9,9 +9,9 @@ ghost use Rattle.mk_top.specs.Running.{HasText, answered, text_of};
 
 use crate::fault::Fault;
 use mk_base::{Bytes, Sink, write_all};
-use mk_bundle::{write_bundle, write_registers};
+use mk_bundle::write_registers;
 use mk_regs::RegCode;
-use mk_rules::{Bundle, Cert};
+use mk_rules::Cert;
 
 /// Register code and its certificate.
 #[derive(Debug, Drop)]
@@ -20,15 +20,13 @@ pub(crate) struct RegisterBundle {
     pub(crate) cert: Cert,
 }
 
-/// A text, or a bundle, whose text is made while it is written.
+/// A text, or a bundle over registers, whose text is made while it is written.
 #[derive(Debug, Drop)]
 pub(crate) enum Answer {
     /// The bytes of a text.
     Text(Bytes),
-    /// A code and its certificate.
-    Bundle(Bundle),
     /// Register code and its certificate.
-    Registers(RegisterBundle),
+    Bundle(RegisterBundle),
 }
 
 impl Answer {
@@ -43,8 +41,7 @@ impl Answer {
     {
         let written = match self {
             Answer::Text(bytes) => write_all(out, bytes.as_slice()),
-            Answer::Bundle(bundle) => write_bundle(out, &bundle.code, &bundle.cert),
-            Answer::Registers(made) => write_registers(out, &made.code, &made.cert),
+            Answer::Bundle(bundle) => write_registers(out, &bundle.code, &bundle.cert),
         };
         written.map_err(|_| Fault::WriteFault)
     }
@@ -57,16 +54,9 @@ pub(crate) fn text_answer(made: Result<Bytes, Fault>) -> Result<Answer, Fault>
     made.map(Answer::Text)
 }
 
-/// A bundle that was made, as an answer.
-pub(crate) fn bundle_answer(made: Result<Bundle, Fault>) -> Result<Answer, Fault>
+/// Register code that was made, with its certificate, as an answer.
+pub(crate) fn bundle_answer(made: Result<RegisterBundle, Fault>) -> Result<Answer, Fault>
     ensures { result ≡ answered answer.Bundle made }
 {
     made.map(Answer::Bundle)
-}
-
-/// Register code that was made, with its certificate, as an answer.
-pub(crate) fn registers_answer(made: Result<RegisterBundle, Fault>) -> Result<Answer, Fault>
-    ensures { result ≡ answered answer.Registers made }
-{
-    made.map(Answer::Registers)
 }

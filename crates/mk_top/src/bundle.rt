@@ -103,7 +103,8 @@ fn judged<S: Source>(reader: BundleReader, src: &mut S, checker: Checker) -> Res
     }
 }
 
-/// Checks the bundle whose text is all that the input gives. No more of the text is kept than a few lines.
+/// Checks the bundle whose text is all that the input gives. No more of the text is kept than a few lines, and of a
+/// bundle over registers what these hold.
 fn verdict<S: Source>(alloc: Global, src: &mut S) -> Result<(), Fault>
     ensures checked { OnOk result (Checked (S.left src.old) (S.left src.new)) }
     ensures fault { IfErr result (NoText Check (seen S.left S.faults src.old src.new)) }

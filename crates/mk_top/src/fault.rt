@@ -24,9 +24,11 @@ pub enum Fault {
     Check(CheckFault),
     /// No bundle text goes on behind this line, counted from 1.
     Bundle { line: u32 },
-    /// The instruction of a bundle's register code of this number, from 0, reads a register that holds nothing.
+    /// The instruction of a bundle's register code of this number, from 0, reads a register that holds nothing. An out
+    /// is told by the number of instructions.
     Unset { instr: u32 },
-    /// The instruction of a bundle's register code of this number, from 0, names a register that isn't there.
+    /// The instruction of a bundle's register code of this number, from 0, names a register that isn't there. An out is
+    /// told by the number of instructions.
     Register { instr: u32 },
     /// No gadget text goes on behind this line, counted from 1.
     Gadget { line: u32 },

@@ -28,8 +28,8 @@ pub(crate) fn whole_text<S: Source>(alloc: Global, src: &mut S, limit: u32) -> R
     }
 }
 
-/// Reads a bundle, whose text is all that the input gives, at most 268,435,456 bytes. No more of the text is kept than
-/// a few lines.
+/// Reads a bundle, whose text is all that the input gives, at most 268,435,456 bytes. Beside the code and the
+/// certificate no more is kept than a few lines, and of a bundle over registers what these hold.
 pub(crate) fn whole_bundle<S: Source>(alloc: Global, src: &mut S) -> Result<Bundle, Fault>
     ensures read { IfOk result (λ bundle. Collected bundle MOST_BYTES (S.left src.old) (S.left src.new)) }
     ensures fault { IfErr result (NoBundle (seen S.left S.faults src.old src.new)) }

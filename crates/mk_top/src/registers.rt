@@ -1,8 +1,10 @@
-//! Bundles over registers: a bundle read, checked, and then allocated.
+//! Bundles over registers: what is allocated for a code, and a bundle read, checked, and then allocated.
 
-ghost use Rattle.std.specs.Prelude.{◌≤◌, ℕ, List, Some, OnOk, IfOk, IfErr};
+ghost use Rattle.std.specs.Prelude.{◌≡◌, ◌≤◌, ℕ, List, Some, OnOk, IfOk, IfErr};
 ghost use Rattle.mk_code.specs.Private.{Private};
 ghost use Rattle.mk_rules.specs.Accepts.{IsAccepted};
+ghost use Rattle.mk_regs.specs.Form.{IsRegListing};
+ghost use Rattle.mk_regs.specs.Allocation.{IsAllocated};
 ghost use Rattle.mk_bundle.specs.Pairs.{IsBundleOf, IsRegisterPair};
 ghost use Rattle.mk_bundle.specs.Text.{register_text};
 ghost use Rattle.mk_words.specs.Words.{Regs};
@@ -14,7 +16,7 @@ ghost use Rattle.mk_top.specs.Running.{NotMade, Made, NoText};
 use crate::answer::RegisterBundle;
 use crate::fault::Fault;
 use crate::reading::whole_bundle;
-use mk_base::Source;
+use mk_base::{Memory, Source};
 use mk_check::check;
 use mk_regs::allocate;
 use mk_rules::Bundle;
@@ -36,6 +38,18 @@ fn check_bundle(alloc: Global, bundle: &Bundle) -> Result<(), Fault>
 }
 
 /// The register code that is allocated for the code of a bundle, with the certificate of the bundle.
+pub(crate) fn over_registers(alloc: Global, bundle: Bundle) -> Result<RegisterBundle, Memory>
+    ensures listing { IfOk result (λ made. IsRegListing made.code) }
+    ensures allocated { IfOk result (λ made. IsAllocated bundle.code made.code) }
+    ensures cert { IfOk result (λ made. made.cert ≡ bundle.cert) }
+{
+    let code = allocate(alloc, &bundle.code)?;
+    code.law();
+    let cert = bundle.cert;
+    Ok(RegisterBundle { code, cert })
+}
+
+/// The register code that is allocated for the code of a bundle that is accepted, with the certificate of the bundle.
 fn registers_of(alloc: Global, bundle: Bundle) -> Result<RegisterBundle, Fault>
     ensures allocates { (text : List ℕ) → IsBundleOf text bundle.code bundle.cert
         → IfOk result (λ made. Allocates (Some text) (register_text made.code made.cert)) }
@@ -45,10 +59,7 @@ fn registers_of(alloc: Global, bundle: Bundle) -> Result<RegisterBundle, Fault>
         → IfErr result (NotMade Regs text) }
 {
     check_bundle(alloc, &bundle)?;
-    let code = allocate(alloc, &bundle.code)?;
-    code.law();
-    let cert = bundle.cert;
-    Ok(RegisterBundle { code, cert })
+    Ok(over_registers(alloc, bundle)?)
 }
 
 /// Reads a bundle to its end, checks it, and answers the register code that is allocated for its code, with its

@@ -5,22 +5,23 @@ ghost use Rattle.mk_code.specs.declared.TheConstants.{MOST_MAPS};
 ghost use Rattle.mk_parse.specs.declared.TheConstants.{MOST_SOURCE_BYTES};
 ghost use Rattle.mk_base.specs.declared.TheConstants.{TOP_ORDER};
 ghost use Rattle.mk_types.specs.Elements.{maps_of};
-ghost use Rattle.mk_rules.specs.Pairs.{IsPair};
-ghost use Rattle.mk_bundle.specs.Text.{text};
+ghost use Rattle.mk_bundle.specs.Pairs.{IsRegisterPair};
+ghost use Rattle.mk_bundle.specs.Text.{register_text};
 ghost use Rattle.mk_words.specs.Words.{Compile, Eval};
 ghost use Rattle.mk_top.specs.Headline.{CompilesSo, Evaluates};
 ghost use Rattle.mk_top.specs.Sources.{IsSourceOf};
 ghost use Rattle.mk_top.specs.Seen.{seen};
 ghost use Rattle.mk_top.specs.Running.{NotMade, NotTyped, Made, NoText};
 
+use crate::answer::RegisterBundle;
 use crate::fault::Fault;
 use crate::outputs::elements_line;
 use crate::reading::whole_text;
+use crate::registers::over_registers;
 use mk_base::{Bytes, Source};
 use mk_compile::compile;
 use mk_eval::eval;
 use mk_parse::{MOST_SOURCE_BYTES, parse};
-use mk_rules::Bundle;
 use mk_types::{Typed, check_types};
 use std::alloc::Global;
 
@@ -35,16 +36,17 @@ pub(crate) fn typed_source(alloc: Global, source: &[u8]) -> Result<Typed, Fault>
     Ok(check_types(alloc, tree)?)
 }
 
-/// The bundle that a source is compiled to at an order.
-fn bundle_of_source(alloc: Global, source: &[u8], order: u8) -> Result<Bundle, Fault>
+/// The bundle over registers that a source is compiled to at an order.
+fn bundle_of_source(alloc: Global, source: &[u8], order: u8) -> Result<RegisterBundle, Fault>
     requires order { (1 ≤ order) × (order ≤ TOP_ORDER) }
     requires within { length source.now ≤ MOST_SOURCE_BYTES }
-    ensures compiled { IfOk result (λ bundle. CompilesSo order (Some source.now) (text bundle.code bundle.cert)) }
-    ensures pair { IfOk result (λ bundle. IsPair bundle.code bundle.cert) }
+    ensures compiled { IfOk result (λ made. CompilesSo order (Some source.now) (register_text made.code made.cert)) }
+    ensures pair { IfOk result (λ made. IsRegisterPair made.code made.cert) }
     ensures fault { IfErr result (NotMade (Compile order) source.now) }
 {
     let typed = typed_source(alloc, source)?;
-    Ok(compile(alloc, &typed, order)?)
+    let bundle = compile(alloc, &typed, order)?;
+    Ok(over_registers(alloc, bundle)?)
 }
 
 /// The line of the outputs that a source is evaluated to on these elements.
@@ -65,16 +67,16 @@ fn text_of_outputs(
     Ok(elements_line(alloc, outputs.as_slice())?)
 }
 
-/// Reads a source to its end, and answers the bundle that it is compiled to at an order.
+/// Reads a source to its end, and answers the bundle over registers that it is compiled to at an order.
 pub(crate) fn compiled_bundle<S: Source>(
     alloc: Global,
     src: &mut S,
     order: u8,
-) -> Result<Bundle, Fault>
+) -> Result<RegisterBundle, Fault>
     requires { (1 ≤ order) × (order ≤ TOP_ORDER) }
-    ensures made { IfOk result (λ bundle. Made (Compile order) (seen S.left S.faults src.old src.new)
-        (text bundle.code bundle.cert)) }
-    ensures pair { IfOk result (λ bundle. IsPair bundle.code bundle.cert) }
+    ensures made { IfOk result (λ made. Made (Compile order) (seen S.left S.faults src.old src.new)
+        (register_text made.code made.cert)) }
+    ensures pair { IfOk result (λ made. IsRegisterPair made.code made.cert) }
     ensures unmade { IfErr result (NoText (Compile order) (seen S.left S.faults src.old src.new)) }
     ensures reads { S.faults src.old ≤ S.faults src.new }
 {

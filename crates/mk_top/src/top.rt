@@ -21,7 +21,7 @@ ghost use Rattle.mk_top.specs.Tables.{Tabulates};
 ghost use Rattle.mk_top.specs.Gadgets.{Judges};
 ghost use Rattle.mk_top.specs.Running.{Finished, Stopped, ReadsOrLeaves, Made, NoText, IsMade, IsUnmade};
 
-use crate::answer::{Answer, bundle_answer, registers_answer, text_answer};
+use crate::answer::{Answer, bundle_answer, text_answer};
 use crate::bundle::checked_text;
 use crate::counts::counted_text;
 use crate::fault::Fault;
@@ -173,7 +173,7 @@ fn answer_asked<S: Source>(alloc: Global, words: &Words, src: &mut S) -> Result<
         Some(Form::Trial { turns, order }) => text_answer(tried_text(alloc, turns, order)),
         Some(Form::Table) => text_answer(tabulated_text(alloc, src)),
         Some(Form::Gadget) => text_answer(judged_text(alloc, src)),
-        Some(Form::Regs) => registers_answer(allocated_bundle(alloc, src)),
+        Some(Form::Regs) => bundle_answer(allocated_bundle(alloc, src)),
     }
 }
 
@@ -203,8 +203,8 @@ fn carry_out<S: Source, O: Sink>(
 /// Carries out the command that the words ask for, reading from `src`, writing its text to `out` and,
 /// where the answer is not `Done`, one fault line to `err`.
 ///
-/// The forms of the words are `compile T`, T being one digit from 1 to 8, which reads a source of at
-/// most 1,048,576 bytes and writes the bundle text of its masked code at order T; `check`, which reads a
+/// The forms of the words are `compile T`, T being a decimal number from 1 to 15, which reads a source of at
+/// most 1,048,576 bytes and writes the bundle text of its masked code at order T, over as few registers as can be; `check`, which reads a
 /// bundle text of at most 268,435,456 bytes and writes `accepted` and a line feed; `eval P S`, which
 /// reads a source and writes its outputs on the public inputs P and the secrets S as one word of elements
 /// and a line feed; `run P S seed X` and `run P S tape X`, which read a bundle and write, for each output
@@ -233,13 +233,13 @@ pub fn mask_main<S: Source, O: Sink, E: Sink>(
     ensures words { (result ≡ Status.Words) ⊎ IsForm words.now }
     ensures words_only { result ≡ Status.Words → IsNoForm words.now × (src.new ≡ src.old) }
 
-    // What `compile` wrote is the text of a code and certificate: the code gives sharings of the program's result,
-    // is private, and is accepted with the certificate.
+    // What `compile` wrote is the text of register code and a certificate: the register code gives sharings of the
+    // program's result, is private, and is accepted with the certificate.
     ensures compiled { (order : ℕ) → Asks words.now (Compile order) → result ≡ Status.Done
         → (written : List ℕ) × Compiles order (S.left src.old) written
         × TakesWhole (O.taken out.old) written (O.taken out.new) }
 
-    // And this code and certificate are made of the program's values and maps, with refreshes where uses need them.
+    // And the code that this is allocated for, and the certificate, are made of the program's values and maps, with refreshes where uses need them.
     ensures made { (order : ℕ) → Asks words.now (Compile order) → result ≡ Status.Done
         → (written : List ℕ) × CompilesSo order (S.left src.old) written
         × TakesWhole (O.taken out.old) written (O.taken out.new) }

@@ -6,7 +6,7 @@ use Rattle.hex.specs.declared.error.FromHexError.TheVariants.{OddLength}
 use Rattle.hex.proofs.HexLemmas.{decode_of-same}
 use Rattle.mk_words.specs.Words.{Command, Compile, Check, Eval, Run, Count, Report, Gen, Trial, Table, Gadget, Regs, GivenTape, Seed, Tape, IsOrder, IsTurns, SaysElements, SaysTape, SaysProbes, Asks}
 use Rattle.mk_words.proofs.Commands.{seed-not-tape}
-use Rattle.mk_words.proofs.Decimals.{says-probes-one, turns-one}
+use Rattle.mk_words.proofs.Decimals.{says-probes-one, turns-one, order-one}
 
 -- `-` is no text of hexadecimal digits
 dash : (word xs : List ℕ) → word ≡ codes "-" → decode_of word ≡ Ok xs → ⊥
@@ -57,13 +57,6 @@ asks-marked words (Trial turns order) asks = ap mark_of asks.2
 asks-marked words Table asks = ap mark_of asks
 asks-marked words Gadget asks = ap mark_of asks
 asks-marked words Regs asks = ap mark_of asks
-
--- a word says one order
-order-one : (word : List ℕ) (m n : ℕ) → IsOrder word m → IsOrder word n → m ≡ n
-order-one word m n first second =
-    let digits : (48 + m) ∷ [] ≡ (48 + n) ∷ [] = sym first.0 ∙ second.0 in
-    let sums : 48 + m ≡ 48 + n = cc in
-    omega (arith, sums)
 
 -- the words ask for one command
 pub asks-one : (words : List (List ℕ)) (a b : Command) → Asks words a → Asks words b → a ≡ b

@@ -11,7 +11,7 @@ use Rattle.std.proofs.lemmas.Str.{IsUtf8-from_ascii}
 use Rattle.std.specs.Str.{IsUtf8}
 use Rattle.std.proofs.lemmas.List.Elements.{All-nil, All-cons, All-head, All-tail, All-map, All-weaker, All-get_or, All-from_all_within}
 use Rattle.std.proofs.lemmas.List.Splits.{slice_split_none, slice_split_at, length-slice_split, join_with_byte-slice_split}
-use Rattle.mk_words.specs.Words.{probes_word, SaysProbes, IsTurns}
+use Rattle.mk_words.specs.Words.{probes_word, SaysProbes, IsOrder, IsTurns}
 use Rattle.mk_words.specs.Forms.{AreProbes}
 use Rattle.mk_words.specs.Numbers.{IsNumber}
 
@@ -152,3 +152,7 @@ all-read word ps seen i other says end before =
 -- a word is one number of turns
 pub turns-one : (word : List ℕ) (m n : ℕ) → IsTurns word m → IsTurns word n → m ≡ n
 turns-one word m n is again = decimal_injective m n (omega (arith, is.2)) (omega (arith, again.2)) (sym is.0 ∙ again.0)
+
+-- a word says one order
+pub order-one : (word : List ℕ) (m n : ℕ) → IsOrder word m → IsOrder word n → m ≡ n
+order-one word m n is again = decimal_injective m n (omega (arith, is.2)) (omega (arith, again.2)) (sym is.0 ∙ again.0)

@@ -26,9 +26,9 @@ pub data Command : Type 0 where
   Gadget : Command
   Regs : Command
 
--- the word is this order, one digit in the range of orders
+-- the word is this order, in decimal
 abbrev pub IsOrder : List ℕ → ℕ → Type 0
-IsOrder word order = (word ≡ (48 + order) ∷ []) × (1 ≤ order) × (order ≤ TOP_ORDER)
+IsOrder word order = (word ≡ decimal order) × (1 ≤ order) × (order ≤ TOP_ORDER)
 
 -- the word says these elements: `-` says none, and else two hexadecimal digits of either case say each
 abbrev pub SaysElements : List ℕ → List ℕ → Type 0

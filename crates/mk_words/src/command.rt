@@ -4,7 +4,7 @@ ghost use Rattle.mk_words.specs.Forms.{AsksSo, SaysTapeSo};
 
 use crate::elements::are_elements;
 use crate::numbers::{are_probes, number_of};
-use mk_base::Words;
+use mk_base::{TOP_ORDER, Words};
 
 /// What the words ask for, with the words of elements as they stand.
 #[derive(Clone, Copy)]
@@ -262,10 +262,12 @@ fn order_of(word: &[u8]) -> Option<u8>
     ensures found { IfSome result (IsOrder word.now) }
     ensures none { IfNone result ((order : ℕ) → IsOrder word.now order → ⊥) }
 {
-    match word {
-        [digit @ b'1'..=b'8'] => Some(*digit - b'0'),
-        _ => None,
+    let most = u32::from(TOP_ORDER);
+    let order = number_of(word)?;
+    if order == 0 || order > most {
+        return None;
     }
+    Some(order as u8)
 }
 
 /// The number of turns that a word says.

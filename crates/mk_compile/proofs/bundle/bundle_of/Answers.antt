@@ -28,5 +28,5 @@ returns-clause-private c = accepted_built_in-private c.in_ok-code.code c.args.ce
 
 pub returns-clause-pair : goal.returns-clause-pair
 returns-clause-pair c =
-    accepted-pair c.in_ok-code.code c.args.cert c.law-2.ensures.fits c.law-2.ensures.fits.order.1 c.law-2.ensures.maps (returns-clause-accepted c)
+    accepted-pair c.in_ok-code.code c.args.cert c.law-2.ensures.fits c.law-2.ensures.maps (returns-clause-accepted c)
     c.requires.few_blocks c.requires.few_claims

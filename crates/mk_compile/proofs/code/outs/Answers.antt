@@ -1,9 +1,10 @@
 -- One claim more.
-use Rattle.std.proofs.Common.{arith, ℕ, List, ◌≡◌, ◌≤◌, ◌*◌, ◌++◌, ◌∷◌, [], length, take, slice_index_or, sym, ap, ◌∙◌, append-nil}
+use Rattle.std.proofs.Common.{◌+◌, arith, ℕ, List, ◌≡◌, ◌≤◌, ◌*◌, ◌++◌, ◌∷◌, [], length, take, slice_index_or, sym, ap, ◌∙◌, append-nil}
 use Rattle.std.specs.List.{flat_map}
 use Rattle.std.proofs.lemmas.List.{length-append, take_more, take_all}
 use Rattle.std.proofs.lemmas.List.Concat.{flat_map-append}
 use Rattle.std.proofs.lemmas.Nat.{mul-le}
+use Rattle.mk_base.specs.declared.TheConstants.{TOP_ORDER}
 use Rattle.mk_ssa.specs.declared.Operand.{Operand}
 use Rattle.mk_ssa.specs.declared.Operand.TheVariants.{Secret}
 use Rattle.mk_compile.specs.Positions.{bank_of}
@@ -31,8 +32,8 @@ loop-claim-preserved g c =
 
 pub from_vec-requires : goal.from_vec-requires
 from_vec-requires g c =
-    let few : c.loop-claim.claim-index * g.row.N ≤ 65536 * 9 =
-    mul-le c.loop-claim.claim-index g.row.N 65536 9 (omega (arith, c.loop-claim.auto.claim-index-end, c.requires.few_claims)) c.requires.shares in
+    let few : c.loop-claim.claim-index * g.row.N ≤ 65536 * (TOP_ORDER + 1) =
+    mul-le c.loop-claim.claim-index g.row.N 65536 (TOP_ORDER + 1) (omega (arith, c.loop-claim.auto.claim-index-end, c.requires.few_claims)) c.requires.shares in
     omega (arith, few, c.loop-claim.invariant.count)
 
 pub returns-clause-positions : goal.returns-clause-positions

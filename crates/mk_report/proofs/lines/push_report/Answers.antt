@@ -15,9 +15,9 @@ returns c =
     three-texts (string_bytes c.args.text.now) (string_bytes c.push_secrets.new.text) (string_bytes c.push_blocks.new.text) (string_bytes c.push_total.new.text)
     (flat_map (λ k. secret_line k (places k)) (range_with_len 0 code.secrets))
     (flat_map (λ row. block_line code.order row.0 row.1 (places (code.secrets + code.publics + row.0))) (enumerate_from 0 c.args.blocks.now))
-    (total_line code.order c.args.blocks.now)
+    (total_line code.order c.args.blocks.now c.args.width)
     (c.in_ok-push_secrets.ensures places are
     ∙ ap (λ (n : ℕ). string_bytes c.args.text.now ++ flat_map (λ k. secret_line k (places k)) (range_with_len 0 n)) c.secrets.ensures)
     (c.in_ok-push_blocks.ensures places are)
-    (total ∙ ap (λ (n : ℕ). string_bytes c.push_blocks.new.text ++ total_line n c.args.blocks.now) c.order.ensures))
+    (total ∙ ap (λ (n : ℕ). string_bytes c.push_blocks.new.text ++ total_line n c.args.blocks.now c.args.width) c.order.ensures))
     c.push_total.ensures

@@ -5,7 +5,7 @@ use Rattle.mk_words.specs.Forms.{AsksSo}
 use Rattle.mk_words.specs.declared.command.Form.TheVariants as form
 use Rattle.mk_top.specs.declared.answer.Answer.TheVariants as answer
 use Rattle.mk_top.specs.Seen.{seen}
-use Rattle.mk_top.proofs.Ends.{made-asked, unmade-asked, made-unread, unmade-unread, made-evaluated, unmade-evaluated, made-run, unmade-run, made-counted, unmade-counted, asked-leaves, text-answered, bundle-answered, registers-answered, fault-answered}
+use Rattle.mk_top.proofs.Ends.{made-asked, unmade-asked, made-unread, unmade-unread, made-evaluated, unmade-evaluated, made-run, unmade-run, made-counted, unmade-counted, asked-leaves, text-answered, bundle-answered, fault-answered}
 use Rattle.mk_top.proofs.top.answer_asked.Goals as goal
 
 pub returns-in-Some-Compile-clause-made : goal.returns-in-Some-Compile-clause-made
@@ -179,12 +179,12 @@ returns-in-Some-Gadget-clause-leaves g c =
 
 pub returns-in-Some-Regs-clause-made : goal.returns-in-Some-Regs-clause-made
 returns-in-Some-Regs-clause-made g c =
-    registers-answered c.args.words.now Regs (seen g.S.Source.left g.S.Source.faults c.args.src.now c.allocated_bundle.new.src) c.allocated_bundle.result c.registers_answer.result
-    c.registers_answer.ensures (subst (AsksSo c.args.words.now) c.in-Some-Regs.field-0-is (c.in-Some-Regs.ensures).asked) c.allocated_bundle.ensures.made c.allocated_bundle.ensures.pair
+    bundle-answered c.args.words.now Regs (seen g.S.Source.left g.S.Source.faults c.args.src.now c.allocated_bundle.new.src) c.allocated_bundle.result c.bundle_answer-in-Some-Regs.result
+    c.bundle_answer-in-Some-Regs.ensures (subst (AsksSo c.args.words.now) c.in-Some-Regs.field-0-is (c.in-Some-Regs.ensures).asked) c.allocated_bundle.ensures.made c.allocated_bundle.ensures.pair
 
 pub returns-in-Some-Regs-clause-unmade : goal.returns-in-Some-Regs-clause-unmade
 returns-in-Some-Regs-clause-unmade g c =
-    fault-answered answer.Registers _ c.allocated_bundle.result c.registers_answer.result c.registers_answer.ensures
+    fault-answered answer.Bundle _ c.allocated_bundle.result c.bundle_answer-in-Some-Regs.result c.bundle_answer-in-Some-Regs.ensures
     (unmade-asked c.args.words.now Regs (seen g.S.Source.left g.S.Source.faults c.args.src.now c.allocated_bundle.new.src) c.allocated_bundle.result
     (subst (AsksSo c.args.words.now) c.in-Some-Regs.field-0-is (c.in-Some-Regs.ensures).asked) c.allocated_bundle.ensures.unmade)
 

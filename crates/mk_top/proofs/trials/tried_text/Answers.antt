@@ -6,7 +6,8 @@ use Rattle.mk_words.specs.Words.{Trial}
 use Rattle.mk_top.specs.declared.fault.Fault.{Fault}
 use Rattle.mk_top.specs.Sources.{IsSourceOf}
 use Rattle.mk_top.specs.Running.{NotMade, NotTyped}
-use Rattle.mk_top.proofs.Tried.{generated-within, trial-typed, trial-compiled, tries-made}
+use Rattle.mk_top.proofs.Tried.{generated-within, trial-typed, trial-compiled}
+use Rattle.mk_top.proofs.Allocated.{tries-made}
 use Rattle.mk_top.proofs.trials.tried_text.Goals as goal
 
 pub typed_source-requires : goal.typed_source-requires

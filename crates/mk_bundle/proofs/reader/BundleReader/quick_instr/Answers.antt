@@ -25,8 +25,8 @@ returns-clause-some c =
     let is : mid ≡ record was { noted = left; lines = was.lines + 1; pending = h.behind } =
     ap (λ (s : Seen). record was { noted = record was.noted { seen = s }; lines = was.lines + 1; pending = c.pass.new.self.pending; count = c.pass.new.self.count; limit = c.pass.new.self.limit }) c.count_instr.ensures
     ∙ ap (λ (n : Held). record was { noted = left; lines = was.lines + 1; pending = n.pending; count = n.count; limit = n.limit }) held in
-    let free : was.waiting ≡ None = ap (λ (r : Reader). r.waiting) c.self.view_is ∙ c.requires in
-    let over : was.noted.form ≡ form.Positions = c.is_over_positions.ensures.0 c.if-not-is_over_positions.false in
-    let lower : was.noted.seen.stage ≡ Lower = c.is_lower.ensures.0 c.if-not-is_lower.false in
+    let free : was.waiting ≡ None = ap (λ (r : Reader). r.waiting) c.self.view_is ∙ c.requires.waiting in
+    let over : was.noted.form ≡ form.Positions = ap (λ (r : Reader). r.noted.form) c.self.view_is ∙ c.requires.form in
+    let lower : was.noted.seen.stage ≡ Lower = ap (λ (r : Reader). r.noted.seen.stage) c.self.view_is ∙ c.requires.stage in
     let counts : instr_counts was.noted.seen i ≡ true = sym c.may_instr.ensures.counts ∙ c.if-not-may_instr.false in
     subst (λ (o : Reader). Tells (event.Instr i) o mid) c.self.view_is (instr_told was mid i len h free over lower counts is)
